@@ -1,0 +1,5 @@
+pub mod Cases
+pub mod Walk
+pub mod Parts
+pub mod Tables
+pub mod Every

@@ -1,0 +1,5 @@
+pub mod Tens
+pub mod CountLaws
+pub mod DecimalLaws
+pub mod PlainLaws
+pub mod WholeLaws

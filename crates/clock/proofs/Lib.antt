@@ -1,0 +1,5 @@
+pub mod PatternLaws
+pub mod DateLaws
+pub mod TimeLaws
+pub mod SpanLaws
+pub mod Examples

@@ -1,0 +1,83 @@
+-- `hours_and_minutes` meets its contract: each return is the first pattern that fits.
+use mathlib.Core.Bool.{true, false}
+use mathlib.Core.Path.{sym, _∙_, _≡_}
+use native.Mathlib.Omega.{arith}
+use Rattle.lists.specs.Quoted.{quoted}
+use Rattle.clock.specs.Patterns.{fits}
+use Rattle.clock.proofs.PatternLaws.{fits-length}
+use Rattle.clock.specs.Codes.{hoursAndMinutes}
+use borrow.Author.Needs.{needs}
+use Rattle.clock.proofs.hours_and_minutes.Statement.{statement}
+use Rattle.clock.proofs.hours_and_minutes.Tie as tie
+
+slice-aggregate-fits : tie.Need-slice-aggregate-fits
+slice-aggregate-fits c = search needs
+
+fits-requires : tie.Need-fits-requires
+fits-requires c κs = search needs
+
+-- which pattern fits, and which does not
+first : (c : tie.Then1) → fits (quoted "dhdd") (c .before .before .before .before .args .s .now) ≡ true
+first c = sym (c .before .fits2 .ensures) ∙ c .if1 .taken
+
+not-first : (c : tie.Else1) → fits (quoted "dhdd") (c .before .before .before .before .args .s .now) ≡ false
+not-first c = sym (c .before .fits2 .ensures) ∙ c .if1 .left
+
+second : (c : tie.Then2) → fits (quoted "ddhdd") (c .before .before .before .before .before .before .before .args .s .now) ≡ true
+second c = sym (c .before .fits3 .ensures) ∙ c .if2 .taken
+
+digits-at-requires : tie.Need-digits-at-requires
+digits-at-requires c κs = omega (arith, fits-length (quoted "dhdd") _ (first c))
+
+digits-at-requires-2 : tie.Need-digits-at-requires-2
+digits-at-requires-2 c κs = omega (arith, fits-length (quoted "dhdd") _ (first (c .before)))
+
+minutes-of-requires : tie.Need-minutes-of-requires
+minutes-of-requires c κs = search needs
+
+returns : tie.Need-returns
+unfolding hoursAndMinutes
+returns c = rw (c .minutes-of .ensures, c .before .before .digits-at .ensures, c .before .digits-at2 .ensures, first (c .before .before .before))
+
+slice-aggregate-fits-2 : tie.Need-slice-aggregate-fits-2
+slice-aggregate-fits-2 c = search needs
+
+fits-requires-2 : tie.Need-fits-requires-2
+fits-requires-2 c κs = search needs
+
+digits-at-requires-3 : tie.Need-digits-at-requires-3
+digits-at-requires-3 c κs = omega (arith, fits-length (quoted "ddhdd") _ (second c))
+
+digits-at-requires-4 : tie.Need-digits-at-requires-4
+digits-at-requires-4 c κs = omega (arith, fits-length (quoted "ddhdd") _ (second (c .before)))
+
+minutes-of-requires-2 : tie.Need-minutes-of-requires-2
+minutes-of-requires-2 c κs = search needs
+
+returns-2 : tie.Need-returns-2
+unfolding hoursAndMinutes
+returns-2 c =
+    let t = c .before .before .before in
+    rw (c .minutes-of2 .ensures, c .before .before .digits-at3 .ensures, c .before .digits-at4 .ensures, not-first (t .before .before .before), second t)
+
+returns-3 : tie.Need-returns-3
+unfolding hoursAndMinutes
+returns-3 c = rw (not-first (c .before .before .before), ← c .before .fits3 .ensures, c .if2 .left)
+
+pub hours-and-minutes-spec : {M : Type 1} → statement M
+hours-and-minutes-spec =
+    tie.close
+    (tie.spec
+    slice-aggregate-fits
+    fits-requires
+    digits-at-requires
+    digits-at-requires-2
+    minutes-of-requires
+    returns
+    slice-aggregate-fits-2
+    fits-requires-2
+    digits-at-requires-3
+    digits-at-requires-4
+    minutes-of-requires-2
+    returns-2
+    returns-3)

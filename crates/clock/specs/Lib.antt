@@ -1,0 +1,5 @@
+pub mod Patterns
+pub mod Dates
+pub mod Times
+pub mod Spans
+pub mod Codes

@@ -1,0 +1,31 @@
+-- A row in memory, and its channels by their numbers.
+use mathlib.Core.Bool.{false}
+use Prim.Native.Nat.{ℕ, _-_}
+use lib.Dec.{ltb}
+use lib.IntN.{pos}
+use lib.ListN.{getD, replicate}
+use Rattle.lists.specs.Choice.{if_then_else_}
+use Rattle.model.specs.declared.Row.{Row}
+use Rattle.model.specs.declared.Sample.{Sample}
+use Rattle.model.specs.declared.Sample.the-variants as sample
+use Rattle.model.specs.declared.Status.{Status}
+use Rattle.model.specs.declared.Status.the-variants as status
+use Rattle.model.specs.Refusals.{refused}
+
+-- every place zero
+unfoldable pub zeroRow : Row
+zeroRow = record { time = 0; samples = replicate 96 (pos 0); statuses = replicate 256 false }
+
+-- the sample of analog channel n, from 1; a channel for which a row has no place is refused with 15
+unfoldable pub sampleAt : ℕ → Row → Sample
+sampleAt n r =
+    if ltb n 1 then sample.No (refused 15 0 0)
+    else if ltb 96 n then sample.No (refused 15 0 0)
+    else sample.Is (getD (r .samples) (n - 1) (pos 0))
+
+-- the status of status channel n, likewise
+unfoldable pub statusAt : ℕ → Row → Status
+statusAt n r =
+    if ltb n 1 then status.No (refused 15 0 0)
+    else if ltb 256 n then status.No (refused 15 0 0)
+    else status.Is (getD (r .statuses) (n - 1) false)

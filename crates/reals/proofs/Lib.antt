@@ -1,0 +1,4 @@
+pub mod FormLaws
+pub mod SizeLaws
+pub mod LimitLaws
+pub mod Examples

@@ -1,0 +1,84 @@
+-- `digits_of` meets its contract. The loop's invariant: the digits before i are worth v, which is below 10 ^ i.
+use mathlib.Core.Path.{_≡_, sym, _∙_}
+use Prim.Native.Nat.{_≤_, _<_, _-_, _^_}
+use native.Mathlib.Omega.{arith}
+use borrow.Author.Needs.{needs}
+use lib.ListN.{length, drop, getD}
+use Rattle.lists.proofs.Walk.{here, done}
+use Rattle.numerals.proofs.Tens.{more, cap}
+use Rattle.numerals.proofs.CountLaws.{digit-bounds}
+use Rattle.reals.specs.Exact.{digitsOf}
+use Rattle.reals.proofs.digits_of.Statement.{statement}
+use Rattle.reals.proofs.digits_of.Tie as tie
+
+abbrev Inv-loop : tie.InvT-loop
+Inv-loop m v₀ i₀ v i = (i ≤ length m) × (v < 10 ^ i) × (digitsOf 0 m ≡ digitsOf v (drop i m))
+
+abbrev μ-loop : tie.MeasureT-loop
+μ-loop m v₀ i₀ v i = length m - i
+
+-- what was read is a digit
+digit : (c : tie.Then1 Inv-loop μ-loop) → (48 ≤ getD (c .before .before .before .before .before .before .args .m .now) (c .before .before .before .before .loop .i) 0) × (getD (c .before .before .before .before .before .before .args .m .now) (c .before .before .before .before .loop .i) 0 ≤ 57)
+digit c = digit-bounds _ (sym (c .before .is-digit .ensures) ∙ c .if1 .taken)
+
+loop-holds : tie.Need-loop-holds Inv-loop μ-loop
+loop-holds c = search needs
+
+shared-slice-read-b : tie.Need-shared-slice-read-b Inv-loop μ-loop
+shared-slice-read-b c = search needs
+
+add-i : tie.Need-add-i Inv-loop μ-loop
+add-i c = search needs
+
+is-digit-requires : tie.Need-is-digit-requires Inv-loop μ-loop
+is-digit-requires c κs = search needs
+
+mul-v : tie.Need-mul-v Inv-loop μ-loop
+mul-v c = let h = cap 13 _ _ (omega arith) (c .before .before .before .before .loop .inv .1) in omega arith
+
+sub-wide : tie.Need-sub-wide Inv-loop μ-loop
+sub-wide c = digit c .0
+
+wide-requires : tie.Need-wide-requires Inv-loop μ-loop
+wide-requires c κs = search needs
+
+add-v : tie.Need-add-v Inv-loop μ-loop
+add-v c = let h = cap 13 _ _ (omega arith) (c .before .before .before .before .before .loop .inv .1) in omega (arith, c .wide .ensures, digit (c .before))
+
+loop-less : tie.Need-loop-less Inv-loop μ-loop
+loop-less c = search needs
+
+loop-again : tie.Need-loop-again Inv-loop μ-loop
+unfolding digitsOf
+loop-again c = (omega arith, more _ _ _ (c .before .before .before .before .before .loop .inv .1) (omega (arith, c .wide .ensures, digit (c .before))), rw (c .wide .ensures, c .before .before .before .before .before .loop .inv .2, here _ _ (c .before .before .before .before .loop-test .taken), digitsOf, ← c .before .before .is-digit .ensures, c .before .if1 .taken))
+
+loop-less-2 : tie.Need-loop-less-2 Inv-loop μ-loop
+loop-less-2 c = search needs
+
+loop-again-2 : tie.Need-loop-again-2 Inv-loop μ-loop
+unfolding digitsOf
+loop-again-2 c = (omega arith, cap _ _ _ (omega arith) (c .before .before .before .before .loop .inv .1), rw (c .before .before .before .before .loop .inv .2, here _ _ (c .before .before .before .loop-test .taken), digitsOf, ← c .before .is-digit .ensures, c .if1 .left))
+
+returns : tie.Need-returns Inv-loop μ-loop
+unfolding digitsOf
+returns c = rw (c .before .loop .inv .2, done _ _ (c .loop-test .left))
+
+pub digits-of-spec : {M : Type 1} → statement M
+digits-of-spec =
+    tie.close
+    (tie.spec
+    Inv-loop
+    μ-loop
+    loop-holds
+    shared-slice-read-b
+    add-i
+    is-digit-requires
+    mul-v
+    sub-wide
+    wide-requires
+    add-v
+    loop-less
+    loop-again
+    loop-less-2
+    loop-again-2
+    returns)

@@ -186,10 +186,11 @@ timeSaid (time.Is x) = says x
 timeSaid time.Form = refuses (fault 5 2)
 timeSaid time.Range = refuses (fault 6 2)
 
--- the date and time of zeros that stand beside a refusal
+-- the date of zeros that stands beside a refusal
 abbrev pub noDate : Date
 noDate = record { day = 0; month = 0; year = 0 }
 
+-- the time of zeros that stands beside a refusal
 abbrev pub noTime : Time
 noTime = record { hour = 0; minute = 0; second = 0; nanosecond = 0 }
 

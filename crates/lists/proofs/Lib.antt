@@ -3,3 +3,4 @@ pub mod Walk
 pub mod Parts
 pub mod Tables
 pub mod Every
+pub mod Filled

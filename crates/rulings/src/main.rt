@@ -91,36 +91,23 @@ fn line_start(s: &[u8], k: usize) -> usize
     at
 }
 
+// The byte that a letter after a backslash stands for.
+fn meant(letter: u8) -> u8 {
+    match letter {
+        114 => 13,
+        110 => 10,
+        116 => 9,
+        122 => 26,
+        100 => 127,
+        _ => letter,
+    }
+}
+
 // One escape: the letter after a backslash.
 fn escape(out: &mut [u8], p: Put, letter: u8) -> Put {
     let n = p.n;
     let skip = p.skip;
     match letter {
-        114 => Put {
-            n: push(out, n, 13),
-            skip: skip,
-            ended: false,
-        },
-        110 => Put {
-            n: push(out, n, 10),
-            skip: skip,
-            ended: false,
-        },
-        116 => Put {
-            n: push(out, n, 9),
-            skip: skip,
-            ended: false,
-        },
-        122 => Put {
-            n: push(out, n, 26),
-            skip: skip,
-            ended: false,
-        },
-        100 => Put {
-            n: push(out, n, 127),
-            skip: skip,
-            ended: false,
-        },
         112 => Put {
             n: pad(out, n, 65536),
             skip: skip,
@@ -142,7 +129,7 @@ fn escape(out: &mut [u8], p: Put, letter: u8) -> Put {
             ended: true,
         },
         _ => Put {
-            n: push(out, n, letter),
+            n: push(out, n, meant(letter)),
             skip: skip,
             ended: false,
         },

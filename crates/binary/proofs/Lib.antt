@@ -1,0 +1,5 @@
+pub mod BitLaws
+pub mod FitLaws
+pub mod SizeLaws
+pub mod ChannelLaws
+pub mod RowLaws

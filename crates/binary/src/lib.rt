@@ -12,7 +12,8 @@ ghost use lib.ListN.{length};
 ghost use Rattle.lists.specs.Tables.{tab, padded};
 ghost use Rattle.model.specs.Kinds.{widthOf, halfOf};
 ghost use Rattle.model.specs.Layouts.{Sized};
-ghost use Rattle.binary.specs.Rows.{wordsOf, samplesEnd, rowSize, sampleAt, bitOf, statusAt, paddingFree, rowCheck, rowOf, misfit, packed, samplesBytes, wordsBytes, headBytes, bytesOf};
+ghost use Rattle.model.specs.Rows.{misfit};
+ghost use Rattle.binary.specs.Rows.{wordsOf, samplesEnd, rowSize, sampleAt, bitOf, statusAt, paddingFree, rowCheck, rowOf, packed, samplesBytes, wordsBytes, headBytes, bytesOf};
 
 // Bytes of a row's number, and of its timestamp.
 const NUMBER: usize = 4;
@@ -165,22 +166,6 @@ pub fn row_of(layout: Layout, bytes: &[u8]) -> Row
         samples: samples,
         statuses: statuses,
     }
-}
-
-// The index of the first of a samples that does not fit the kind, or a.
-pub fn first_misfit(kind: Kind, samples: [i32; 96], a: usize) -> usize
-    requires { ⌜ a ≤ 96 ⌝ }
-    ensures { λ r. ⌜ r ≡ misfit kind samples a ⌝ }
-{
-    let mut i = 0;
-    while i < a {
-        let z = samples[i];
-        if !kind.fits(z) {
-            return i;
-        }
-        i += 1;
-    }
-    i
 }
 
 // A row's number and timestamp fill the slice.

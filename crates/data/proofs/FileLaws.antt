@@ -15,6 +15,7 @@ use lib.Dec.{eqb}
 use lib.ListN.{length}
 use Rattle.lists.specs.Said.{says, _>>_, must}
 use Rattle.lists.specs.Tables.{every}
+use Rattle.lists.proofs.SaidLaws.{must-told}
 use Rattle.lists.proofs.Tables.{length-cat, part-cat, cat-ext, cat-part}
 use Rattle.words.specs.Words.{isByte}
 use Rattle.model.specs.declared.Kind.the-variants.{Ascii}
@@ -23,12 +24,14 @@ use Rattle.model.specs.declared.Row.{Row}
 use Rattle.model.specs.declared.Answer.the-variants.{Yes}
 use Rattle.model.specs.Layouts.{isSized, Sized}
 use Rattle.model.specs.Refusals.{refused}
+use Rattle.model.specs.Rows.{trimmed, misfit}
+use Rattle.model.proofs.AnswerLaws.{yes-told}
 use Rattle.model.proofs.LayoutLaws.{sized}
-use Rattle.binary.specs.Rows.{rowSize, rowCheck, rowOf, misfit, bytesOf, trimmed}
+use Rattle.binary.specs.Rows.{rowSize, rowCheck, rowOf, bytesOf}
 use Rattle.words.proofs.WordLaws.{bytes-part}
 use Rattle.binary.proofs.RowLaws.{length-row, row-back, row-fine, bytes-back}
 use Rattle.data.specs.Files.{byKind, noText, hasRow, rowBytes, fileOf, rowRefusal, checkRows, checkBinary, checkFile, rowAnswer, showBinary, showRow}
-use Rattle.data.proofs.Laws.{must-told, kind-told, yes-told, binary-kind, row-length, whole}
+use Rattle.data.proofs.Laws.{kind-told, binary-kind, row-length, whole}
 
 -- a file of written rows
 module _ (l : Layout) (r : ℕ → Row) where

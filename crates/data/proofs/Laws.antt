@@ -1,5 +1,5 @@
 -- Laws of what an answer says of the rule that gave it, and of the rows of a file.
---     must-told, kind-told, yes-told, no-told     what an answer says of the rule that gave it
+--     kind-told                   where something is said, the rule of the binary kinds says it
 --     binary-arm, binary-kind     the two binary kinds, by their places among the kinds, or as those that are not text
 --     row-told                    a row that there is
 --     row-end, row-length         row i lies within the file, and has the size of a row
@@ -9,7 +9,7 @@
 -- Assumes nothing.
 use mathlib.Core.Path.{_≡_, refl, _∙_}
 use mathlib.Core.Logic.{⊎-elim}
-use mathlib.Core.Bool.{Bool, true, false}
+use mathlib.Core.Bool.{true}
 use mathlib.Core.List.{List, [], _∷_}
 use Prim.Native.Nat.{ℕ, suc, _+_, _-_, _*_, _<_, _≤_}
 use native.Mathlib.Omega.{arith}
@@ -21,6 +21,7 @@ use types.Run.{OneOf}
 use Rattle.lists.specs.Said.{Said, says, refuses, _>>_, must}
 use Rattle.lists.proofs.Every.{and-split}
 use Rattle.lists.proofs.Parts.{length-part}
+use Rattle.lists.proofs.SaidLaws.{must-told}
 use Rattle.lists.proofs.Tables.{block-end}
 use Rattle.model.proofs.Kind.{the-type}
 use Rattle.model.specs.declared.Kind.{Kind}
@@ -28,30 +29,18 @@ use Rattle.model.specs.declared.Kind.the-variants.{Ascii, Binary, Binary32}
 use Rattle.model.specs.declared.Layout.{Layout}
 use Rattle.model.specs.declared.Row.{Row}
 use Rattle.model.specs.declared.Refusal.{Refusal}
-use Rattle.model.specs.declared.Answer.the-variants as answer
 use Rattle.model.specs.Layouts.{isSized, Sized}
 use Rattle.model.specs.Refusals.{refused}
+use Rattle.model.specs.Rows.{misfit}
 use Rattle.model.proofs.LayoutLaws.{sized}
-use Rattle.binary.specs.Rows.{rowSize, rowCheck, misfit}
-use Rattle.data.specs.declared.Written.the-variants.{Bytes, No}
-use Rattle.data.specs.Files.{byKind, noText, hasRow, rowBytes, fineRow, checkRows, checkBinary, answerOf, writeBinary, written, writeAnswer}
-
-pub must-told : {R B : Type 0} (t : Bool) (r : R) (x : Said R B) (b : B) → (must t r >> x) ≡ says b → (t ≡ true) × (x ≡ says b)
-must-told true r x b e = (refl, e)
-must-told false r x b e = (cc, cc)
+use Rattle.binary.specs.Rows.{rowSize, rowCheck}
+use Rattle.data.specs.declared.Written.the-variants.{Bytes}
+use Rattle.data.specs.Files.{byKind, noText, hasRow, rowBytes, fineRow, checkRows, checkBinary, writeBinary, written, writeAnswer}
 
 pub kind-told : {B : Type 0} (k : Kind) (x : Said Refusal B) (b : B) → byKind k noText x ≡ says b → x ≡ says b
 kind-told Ascii x b e = cc
 kind-told Binary x b e = e
 kind-told Binary32 x b e = e
-
-pub yes-told : (x : Said Refusal (Unit {0})) → answerOf x ≡ answer.Yes → x ≡ says tt
-yes-told (says tt) e = refl
-yes-told (refuses r) e = cc
-
-pub no-told : (x : Said Refusal (Unit {0})) (r : Refusal) → answerOf x ≡ answer.No r → x ≡ refuses r
-no-told (says u) r e = cc
-no-told (refuses q) r e = cc
 
 bytes-told : (x : Said Refusal ℕ) (m : ℕ) → written x ≡ Bytes m → x ≡ says m
 bytes-told (says k) m e = cc

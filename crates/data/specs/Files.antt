@@ -15,9 +15,9 @@ use Rattle.model.specs.declared.Refusal.{Refusal}
 use Rattle.model.specs.declared.Answer.{Answer}
 use Rattle.model.specs.declared.Answer.the-variants as answer
 use Rattle.model.specs.Layouts.{isSized}
-use Rattle.model.specs.Refusals.{refused}
-use Rattle.model.specs.Rows.{zeroRow}
-use Rattle.binary.specs.Rows.{rowSize, rowCheck, rowOf, misfit, bytesOf}
+use Rattle.model.specs.Refusals.{refused, answerOf}
+use Rattle.model.specs.Rows.{zeroRow, misfit}
+use Rattle.binary.specs.Rows.{rowSize, rowCheck, rowOf, bytesOf}
 use Rattle.data.specs.declared.RowAnswer.{RowAnswer}
 use Rattle.data.specs.declared.Written.{Written}
 use Rattle.data.specs.declared.Written.the-variants.{Bytes, No}
@@ -64,11 +64,6 @@ unfoldable pub checkBinary : Layout → List ℕ → Said Refusal (Unit {0})
 checkBinary l s = do
   must (eqb (length s) (l .rows * rowSize l)) (refused 11 0 0)
   checkRows l s 0 (l .rows)
-
--- yes, or the refusal
-abbrev pub answerOf : Said Refusal (Unit {0}) → Answer
-answerOf (says u) = answer.Yes
-answerOf (refuses r) = answer.No r
 
 -- whether a data file is accepted
 unfoldable pub checkFile : Layout → List ℕ → Answer

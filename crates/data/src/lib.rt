@@ -9,9 +9,10 @@ ghost use mathlib.Core.Path.{_≡_};
 ghost use Prim.Native.Nat.{_*_, _-_, _≤_};
 ghost use lib.ListN.{length};
 ghost use Rattle.model.specs.Layouts.{Sized};
+ghost use Rattle.model.specs.Refusals.{answerOf};
 ghost use Rattle.lists.specs.Said.{refuses};
 ghost use Rattle.binary.specs.Rows.{rowSize, rowOf};
-ghost use Rattle.data.specs.Files.{hasRow, rowBytes, rowRefusal, checkRows, answerOf, checkBinary, checkFile, rowAnswer, showBinary, showRow, written, writeBinary, writeAnswer, writtenTo};
+ghost use Rattle.data.specs.Files.{hasRow, rowBytes, rowRefusal, checkRows, checkBinary, checkFile, rowAnswer, showBinary, showRow, written, writeBinary, writeAnswer, writtenTo};
 
 // A row, or a refusal and the row with every place zero.
 pub struct RowAnswer {
@@ -159,7 +160,7 @@ fn may_write_binary(layout: Layout, n: u32, row: Row, room: usize) -> Written
     let kind = layout.kind;
     let a = layout.analogs as usize;
     let samples = row.samples;
-    let bad = binary::first_misfit(kind, samples, a);
+    let bad = model::first_misfit(kind, samples, a);
     let field = 3 + bad as u32;
     let size = binary::row_size(layout);
     if bad != a {

@@ -112,23 +112,28 @@ sideFault l = valueOf (readSide l) .number
 abbrev pub stateFault : List ℕ → ℕ
 stateFault l = valueOf (readState l) .number
 
--- an analog channel's index, name, phase, circuit, unit
-unfoldable pub namesFault : ℕ → List ℕ → Fault
-namesFault i l = checked (do
-  fields 13 l
+-- a channel's line of n fields: index, name, phase, circuit
+unfoldable pub namesFault : ℕ → ℕ → List ℕ → Fault
+namesFault n i l = checked (do
+  fields n l
   fine 1 (indexFault i) l
   fine 2 (textFault 1 128) l
   fine 3 (textFault 0 2) l
-  fine 4 (textFault 0 64) l
-  fine 5 (textFault 1 32) l)
+  fine 4 (textFault 0 64) l)
+
+-- unit, a, b, skew
+unfoldable pub scaleFault : List ℕ → Fault
+scaleFault l = checked (do
+  fine 5 (textFault 1 32) l
+  fine 6 realFault l
+  fine 7 realFault l
+  fine 8 realFault l)
 
 -- analog channel i: index, name, phase, circuit, unit, a, b, skew, min, max, primary, secondary, p P s S
 unfoldable pub analogLine : ℕ → List ℕ → Fault
 analogLine i l = checked (do
-  passed (namesFault i l)
-  fine 6 realFault l
-  fine 7 realFault l
-  fine 8 realFault l
+  passed (namesFault 13 i l)
+  passed (scaleFault l)
   passed (limitsFault l)
   fine 11 realFault l
   fine 12 realFault l
@@ -137,11 +142,7 @@ analogLine i l = checked (do
 -- status channel i: index, name, phase, circuit, normal state
 unfoldable pub statusLine : ℕ → List ℕ → Fault
 statusLine i l = checked (do
-  fields 5 l
-  fine 1 (indexFault i) l
-  fine 2 (textFault 1 128) l
-  fine 3 (textFault 0 2) l
-  fine 4 (textFault 0 64) l
+  passed (namesFault 5 i l)
   fine 5 stateFault l)
 
 -- line frequency: empty or a real

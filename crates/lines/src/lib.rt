@@ -14,7 +14,7 @@ ghost use mathlib.Core.Path.{_≡_};
 ghost use Prim.Native.Nat.{_<_, _^_};
 ghost use Rattle.reals.specs.Exact.{Sound};
 ghost use Rattle.lines.specs.Faults.{valueOf, textFault, yearFault, indexFault, realFault, frequencyFault, aboveFault, zeroFault};
-ghost use Rattle.lines.specs.Lines.{firstLine, channelsLine, maxFault, limitsFault, sideFault, stateFault, namesFault, analogLine, statusLine, frequencyLine, ratesLine, rateFault, rateLine, noDate, noTime, withTime, dateLine, kindLine, multiplierLine, withLocal, codesLine, qualityLine};
+ghost use Rattle.lines.specs.Lines.{firstLine, channelsLine, maxFault, limitsFault, sideFault, stateFault, namesFault, scaleFault, analogLine, statusLine, frequencyLine, ratesLine, rateFault, rateLine, noDate, noTime, withTime, dateLine, kindLine, multiplierLine, withLocal, codesLine, qualityLine};
 
 // A refusal's number and field; zeros for none.
 pub struct Fault {
@@ -268,11 +268,11 @@ fn limits_fault(line: &[u8]) -> Fault
     }
 }
 
-// Index, name, phase, circuit, unit of an analog channel.
-fn names_fault(line: &[u8], i: u64) -> Fault
-    ensures { λ r. ⌜ r ≡ namesFault i (now (line .entry)) ⌝ }
+// The number of fields, index, name, phase and circuit of channel i.
+fn names_fault(line: &[u8], count: usize, i: u64) -> Fault
+    ensures { λ r. ⌜ r ≡ namesFault count i (now (line .entry)) ⌝ }
 {
-    if text::field_count(line) != 13 {
+    if text::field_count(line) != count {
         return at(4, 0);
     }
     let e1 = index_fault(text::field_at(line, 1), i);
@@ -291,20 +291,16 @@ fn names_fault(line: &[u8], i: u64) -> Fault
     if e4 != 0 {
         return at(e4, 4);
     }
-    let e5 = text_fault(text::field_at(line, 5), 1, 32);
-    if e5 != 0 {
-        return at(e5, 5);
-    }
     at(0, 0)
 }
 
-// The line of analog channel i.
-pub fn analog_line(line: &[u8], i: u64) -> Fault
-    ensures { λ r. ⌜ r ≡ analogLine i (now (line .entry)) ⌝ }
+// Unit, a, b and skew.
+fn scale_fault(line: &[u8]) -> Fault
+    ensures { λ r. ⌜ r ≡ scaleFault (now (line .entry)) ⌝ }
 {
-    let names = names_fault(line, i);
-    if names.number != 0 {
-        return names;
+    let e5 = text_fault(text::field_at(line, 5), 1, 32);
+    if e5 != 0 {
+        return at(e5, 5);
     }
     let e6 = real_fault(text::field_at(line, 6));
     if e6 != 0 {
@@ -317,6 +313,21 @@ pub fn analog_line(line: &[u8], i: u64) -> Fault
     let e8 = real_fault(text::field_at(line, 8));
     if e8 != 0 {
         return at(e8, 8);
+    }
+    at(0, 0)
+}
+
+// The line of analog channel i.
+pub fn analog_line(line: &[u8], i: u64) -> Fault
+    ensures { λ r. ⌜ r ≡ analogLine i (now (line .entry)) ⌝ }
+{
+    let names = names_fault(line, 13, i);
+    if names.number != 0 {
+        return names;
+    }
+    let scale = scale_fault(line);
+    if scale.number != 0 {
+        return scale;
     }
     let limits = limits_fault(line);
     if limits.number != 0 {
@@ -341,24 +352,9 @@ pub fn analog_line(line: &[u8], i: u64) -> Fault
 pub fn status_line(line: &[u8], i: u64) -> Fault
     ensures { λ r. ⌜ r ≡ statusLine i (now (line .entry)) ⌝ }
 {
-    if text::field_count(line) != 5 {
-        return at(4, 0);
-    }
-    let e1 = index_fault(text::field_at(line, 1), i);
-    if e1 != 0 {
-        return at(e1, 1);
-    }
-    let e2 = text_fault(text::field_at(line, 2), 1, 128);
-    if e2 != 0 {
-        return at(e2, 2);
-    }
-    let e3 = text_fault(text::field_at(line, 3), 0, 2);
-    if e3 != 0 {
-        return at(e3, 3);
-    }
-    let e4 = text_fault(text::field_at(line, 4), 0, 64);
-    if e4 != 0 {
-        return at(e4, 4);
+    let names = names_fault(line, 5, i);
+    if names.number != 0 {
+        return names;
     }
     let e5 = state_fault(text::field_at(line, 5));
     if e5 != 0 {

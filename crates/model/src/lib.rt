@@ -1,9 +1,10 @@
 // What every call speaks of: the kind of a data file, a layout, a row, its channels, a refusal.
 // Kind alone says what a sample is wide and which samples fit; a layout has one test of the sizes of the house; a lookup takes the number of its own sort of channel.
 ghost use mathlib.Core.Path.{_≡_};
+ghost use Prim.Native.Nat.{_≤_};
 ghost use Rattle.model.specs.Kinds.{widthOf, halfOf, lowestOf, highestOf, fitsKind, numberOf, kindOf};
 ghost use Rattle.model.specs.Layouts.{isSized};
-ghost use Rattle.model.specs.Rows.{zeroRow, sampleAt, statusAt};
+ghost use Rattle.model.specs.Rows.{zeroRow, sampleAt, statusAt, misfit};
 ghost use Rattle.model.specs.Refusals.{refusalOf};
 
 // The kind of data file.
@@ -250,4 +251,20 @@ impl Row {
         let i = n - 1;
         Status::Is(self.statuses[i])
     }
+}
+
+// The index of the first of a samples that does not fit the kind, or a.
+pub fn first_misfit(kind: Kind, samples: [i32; 96], a: usize) -> usize
+    requires { ⌜ a ≤ 96 ⌝ }
+    ensures { λ r. ⌜ r ≡ misfit kind samples a ⌝ }
+{
+    let mut i = 0;
+    while i < a {
+        let z = samples[i];
+        if !kind.fits(z) {
+            return i;
+        }
+        i += 1;
+    }
+    i
 }

@@ -247,13 +247,6 @@ fn size_le(m: u64, x: u64, n: u64, y: u64) -> bool
     to_places(m, 13 - i) <= to_places(n, 13 - j)
 }
 
-// A byte as a number.
-fn wide(x: u8) -> u64
-    ensures { λ r. ⌜ r ≡ x ⌝ }
-{
-    x as u64
-}
-
 // The digits of a mantissa as a whole number.
 fn digits_of(m: &[u8]) -> u64
     requires { ⌜ length (now m) ≤ 13 ⌝ }
@@ -265,7 +258,7 @@ fn digits_of(m: &[u8]) -> u64
         let b = m[i];
         i += 1;
         if numerals::is_digit(b) {
-            v = 10 * v + wide(b - 48);
+            v = 10 * v + numerals::wide(b - 48);
         }
     }
     v

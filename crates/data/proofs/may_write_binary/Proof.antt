@@ -4,7 +4,7 @@ use mathlib.Core.Bool.{true}
 use Prim.Native.Nat.{_≤_}
 use native.Mathlib.Omega.{arith}
 use borrow.Author.Tests.{eq-eqb, ne-eqb, le-leb, lt-leb, not-true, not-false}
-use Rattle.binary.proofs.FitLaws.{misfit-le}
+use Rattle.model.proofs.FitLaws.{misfit-le}
 use Rattle.data.specs.Files.{hasRow, writeBinary}
 use borrow.Author.Needs.{needs}
 use Rattle.data.proofs.may_write_binary.Statement.{statement}

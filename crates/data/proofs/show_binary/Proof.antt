@@ -4,8 +4,9 @@ use mathlib.Core.Bool.{true}
 use native.Mathlib.Omega.{arith}
 use borrow.Author.Tests.{not-true, not-false}
 use Rattle.lists.specs.Said.{says}
+use Rattle.model.proofs.AnswerLaws.{yes-told, no-told}
 use Rattle.data.specs.Files.{hasRow, checkBinary, showBinary}
-use Rattle.data.proofs.Laws.{yes-told, no-told, row-told, whole}
+use Rattle.data.proofs.Laws.{row-told, whole}
 use borrow.Author.Needs.{needs}
 use Rattle.data.proofs.show_binary.Statement.{statement}
 use Rattle.data.proofs.show_binary.Tie as tie

@@ -12,6 +12,20 @@ returns : tie.Need-returns
 unfolding analogLine
 returns c = rw (← c .before .before .names-fault .ensures, ne-eqb _ 0 (c .if1 .taken))
 
+scale-fault-requires : tie.Need-scale-fault-requires
+scale-fault-requires c κs = search needs
+
+returns-2 : tie.Need-returns-2
+unfolding analogLine
+returns-2 c = rw (← c .before .before .before .before .before .names-fault .ensures, eq-eqb _ 0 (c .before .before .before .if1 .left), ← c .before .before .scale-fault .ensures, ne-eqb _ 0 (c .if2 .taken))
+
+limits-fault-requires : tie.Need-limits-fault-requires
+limits-fault-requires c κs = search needs
+
+returns-3 : tie.Need-returns-3
+unfolding analogLine
+returns-3 c = rw (← c .before .before .before .before .before .before .before .before .names-fault .ensures, eq-eqb _ 0 (c .before .before .before .before .before .before .if1 .left), ← c .before .before .before .before .before .scale-fault .ensures, eq-eqb _ 0 (c .before .before .before .if2 .left), ← c .before .before .limits-fault .ensures, ne-eqb _ 0 (c .if3 .taken))
+
 field-at-requires : tie.Need-field-at-requires
 field-at-requires c κs = search needs
 
@@ -21,9 +35,9 @@ real-fault-requires c κs = search needs
 at-requires : tie.Need-at-requires
 at-requires c κs = search needs
 
-returns-2 : tie.Need-returns-2
+returns-4 : tie.Need-returns-4
 unfolding analogLine
-returns-2 c = rw (c .at .ensures, ← c .before .before .before .before .before .before .names-fault .ensures, eq-eqb _ 0 (c .before .before .before .before .if1 .left), ← c .before .before .before .field-at .ensures, ← c .before .before .real-fault .ensures, ne-eqb _ 0 (c .before .if2 .taken))
+returns-4 c = rw (c .at .ensures, ← c .before .before .before .before .before .before .before .before .before .before .before .before .names-fault .ensures, eq-eqb _ 0 (c .before .before .before .before .before .before .before .before .before .before .if1 .left), ← c .before .before .before .before .before .before .before .before .before .scale-fault .ensures, eq-eqb _ 0 (c .before .before .before .before .before .before .before .if2 .left), ← c .before .before .before .before .before .before .limits-fault .ensures, eq-eqb _ 0 (c .before .before .before .before .if3 .left), ← c .before .before .before .field-at .ensures, ← c .before .before .real-fault .ensures, ne-eqb _ 0 (c .before .if4 .taken))
 
 field-at-requires-2 : tie.Need-field-at-requires-2
 field-at-requires-2 c κs = search needs
@@ -34,75 +48,29 @@ real-fault-requires-2 c κs = search needs
 at-requires-2 : tie.Need-at-requires-2
 at-requires-2 c κs = search needs
 
-returns-3 : tie.Need-returns-3
+returns-5 : tie.Need-returns-5
 unfolding analogLine
-returns-3 c = rw (c .at2 .ensures, ← c .before .before .before .before .before .before .before .before .before .names-fault .ensures, eq-eqb _ 0 (c .before .before .before .before .before .before .before .if1 .left), ← c .before .before .before .before .before .before .field-at .ensures, ← c .before .before .before .before .before .real-fault .ensures, eq-eqb _ 0 (c .before .before .before .before .if2 .left), ← c .before .before .before .field-at2 .ensures, ← c .before .before .real-fault2 .ensures, ne-eqb _ 0 (c .before .if3 .taken))
+returns-5 c = rw (c .at2 .ensures, ← c .before .before .before .before .before .before .before .before .before .before .before .before .before .before .before .names-fault .ensures, eq-eqb _ 0 (c .before .before .before .before .before .before .before .before .before .before .before .before .before .if1 .left), ← c .before .before .before .before .before .before .before .before .before .before .before .before .scale-fault .ensures, eq-eqb _ 0 (c .before .before .before .before .before .before .before .before .before .before .if2 .left), ← c .before .before .before .before .before .before .before .before .before .limits-fault .ensures, eq-eqb _ 0 (c .before .before .before .before .before .before .before .if3 .left), ← c .before .before .before .before .before .before .field-at .ensures, ← c .before .before .before .before .before .real-fault .ensures, eq-eqb _ 0 (c .before .before .before .before .if4 .left), ← c .before .before .before .field-at2 .ensures, ← c .before .before .real-fault2 .ensures, ne-eqb _ 0 (c .before .if5 .taken))
 
 field-at-requires-3 : tie.Need-field-at-requires-3
 field-at-requires-3 c κs = search needs
 
-real-fault-requires-3 : tie.Need-real-fault-requires-3
-real-fault-requires-3 c κs = search needs
+side-fault-requires : tie.Need-side-fault-requires
+side-fault-requires c κs = search needs
 
 at-requires-3 : tie.Need-at-requires-3
 at-requires-3 c κs = search needs
 
-returns-4 : tie.Need-returns-4
+returns-6 : tie.Need-returns-6
 unfolding analogLine
-returns-4 c = rw (c .at3 .ensures, ← c .before .before .before .before .before .before .before .before .before .before .before .before .names-fault .ensures, eq-eqb _ 0 (c .before .before .before .before .before .before .before .before .before .before .if1 .left), ← c .before .before .before .before .before .before .before .before .before .field-at .ensures, ← c .before .before .before .before .before .before .before .before .real-fault .ensures, eq-eqb _ 0 (c .before .before .before .before .before .before .before .if2 .left), ← c .before .before .before .before .before .before .field-at2 .ensures, ← c .before .before .before .before .before .real-fault2 .ensures, eq-eqb _ 0 (c .before .before .before .before .if3 .left), ← c .before .before .before .field-at3 .ensures, ← c .before .before .real-fault3 .ensures, ne-eqb _ 0 (c .before .if4 .taken))
-
-limits-fault-requires : tie.Need-limits-fault-requires
-limits-fault-requires c κs = search needs
-
-returns-5 : tie.Need-returns-5
-unfolding analogLine
-returns-5 c = rw (← c .before .before .before .before .before .before .before .before .before .before .before .before .before .before .names-fault .ensures, eq-eqb _ 0 (c .before .before .before .before .before .before .before .before .before .before .before .before .if1 .left), ← c .before .before .before .before .before .before .before .before .before .before .before .field-at .ensures, ← c .before .before .before .before .before .before .before .before .before .before .real-fault .ensures, eq-eqb _ 0 (c .before .before .before .before .before .before .before .before .before .if2 .left), ← c .before .before .before .before .before .before .before .before .field-at2 .ensures, ← c .before .before .before .before .before .before .before .real-fault2 .ensures, eq-eqb _ 0 (c .before .before .before .before .before .before .if3 .left), ← c .before .before .before .before .before .field-at3 .ensures, ← c .before .before .before .before .real-fault3 .ensures, eq-eqb _ 0 (c .before .before .before .if4 .left), ← c .before .before .limits-fault .ensures, ne-eqb _ 0 (c .if5 .taken))
-
-field-at-requires-4 : tie.Need-field-at-requires-4
-field-at-requires-4 c κs = search needs
-
-real-fault-requires-4 : tie.Need-real-fault-requires-4
-real-fault-requires-4 c κs = search needs
+returns-6 c = rw (c .at3 .ensures, ← c .before .before .before .before .before .before .before .before .before .before .before .before .before .before .before .before .before .before .names-fault .ensures, eq-eqb _ 0 (c .before .before .before .before .before .before .before .before .before .before .before .before .before .before .before .before .if1 .left), ← c .before .before .before .before .before .before .before .before .before .before .before .before .before .before .before .scale-fault .ensures, eq-eqb _ 0 (c .before .before .before .before .before .before .before .before .before .before .before .before .before .if2 .left), ← c .before .before .before .before .before .before .before .before .before .before .before .before .limits-fault .ensures, eq-eqb _ 0 (c .before .before .before .before .before .before .before .before .before .before .if3 .left), ← c .before .before .before .before .before .before .before .before .before .field-at .ensures, ← c .before .before .before .before .before .before .before .before .real-fault .ensures, eq-eqb _ 0 (c .before .before .before .before .before .before .before .if4 .left), ← c .before .before .before .before .before .before .field-at2 .ensures, ← c .before .before .before .before .before .real-fault2 .ensures, eq-eqb _ 0 (c .before .before .before .before .if5 .left), ← c .before .before .before .field-at3 .ensures, ← c .before .before .side-fault .ensures, ne-eqb _ 0 (c .before .if6 .taken))
 
 at-requires-4 : tie.Need-at-requires-4
 at-requires-4 c κs = search needs
 
-returns-6 : tie.Need-returns-6
-unfolding analogLine
-returns-6 c = rw (c .at4 .ensures, ← c .before .before .before .before .before .before .before .before .before .before .before .before .before .before .before .before .before .before .names-fault .ensures, eq-eqb _ 0 (c .before .before .before .before .before .before .before .before .before .before .before .before .before .before .before .before .if1 .left), ← c .before .before .before .before .before .before .before .before .before .before .before .before .before .before .before .field-at .ensures, ← c .before .before .before .before .before .before .before .before .before .before .before .before .before .before .real-fault .ensures, eq-eqb _ 0 (c .before .before .before .before .before .before .before .before .before .before .before .before .before .if2 .left), ← c .before .before .before .before .before .before .before .before .before .before .before .before .field-at2 .ensures, ← c .before .before .before .before .before .before .before .before .before .before .before .real-fault2 .ensures, eq-eqb _ 0 (c .before .before .before .before .before .before .before .before .before .before .if3 .left), ← c .before .before .before .before .before .before .before .before .before .field-at3 .ensures, ← c .before .before .before .before .before .before .before .before .real-fault3 .ensures, eq-eqb _ 0 (c .before .before .before .before .before .before .before .if4 .left), ← c .before .before .before .before .before .before .limits-fault .ensures, eq-eqb _ 0 (c .before .before .before .before .if5 .left), ← c .before .before .before .field-at4 .ensures, ← c .before .before .real-fault4 .ensures, ne-eqb _ 0 (c .before .if6 .taken))
-
-field-at-requires-5 : tie.Need-field-at-requires-5
-field-at-requires-5 c κs = search needs
-
-real-fault-requires-5 : tie.Need-real-fault-requires-5
-real-fault-requires-5 c κs = search needs
-
-at-requires-5 : tie.Need-at-requires-5
-at-requires-5 c κs = search needs
-
 returns-7 : tie.Need-returns-7
 unfolding analogLine
-returns-7 c = rw (c .at5 .ensures, ← c .before .before .before .before .before .before .before .before .before .before .before .before .before .before .before .before .before .before .before .before .before .names-fault .ensures, eq-eqb _ 0 (c .before .before .before .before .before .before .before .before .before .before .before .before .before .before .before .before .before .before .before .if1 .left), ← c .before .before .before .before .before .before .before .before .before .before .before .before .before .before .before .before .before .before .field-at .ensures, ← c .before .before .before .before .before .before .before .before .before .before .before .before .before .before .before .before .before .real-fault .ensures, eq-eqb _ 0 (c .before .before .before .before .before .before .before .before .before .before .before .before .before .before .before .before .if2 .left), ← c .before .before .before .before .before .before .before .before .before .before .before .before .before .before .before .field-at2 .ensures, ← c .before .before .before .before .before .before .before .before .before .before .before .before .before .before .real-fault2 .ensures, eq-eqb _ 0 (c .before .before .before .before .before .before .before .before .before .before .before .before .before .if3 .left), ← c .before .before .before .before .before .before .before .before .before .before .before .before .field-at3 .ensures, ← c .before .before .before .before .before .before .before .before .before .before .before .real-fault3 .ensures, eq-eqb _ 0 (c .before .before .before .before .before .before .before .before .before .before .if4 .left), ← c .before .before .before .before .before .before .before .before .before .limits-fault .ensures, eq-eqb _ 0 (c .before .before .before .before .before .before .before .if5 .left), ← c .before .before .before .before .before .before .field-at4 .ensures, ← c .before .before .before .before .before .real-fault4 .ensures, eq-eqb _ 0 (c .before .before .before .before .if6 .left), ← c .before .before .before .field-at5 .ensures, ← c .before .before .real-fault5 .ensures, ne-eqb _ 0 (c .before .if7 .taken))
-
-field-at-requires-6 : tie.Need-field-at-requires-6
-field-at-requires-6 c κs = search needs
-
-side-fault-requires : tie.Need-side-fault-requires
-side-fault-requires c κs = search needs
-
-at-requires-6 : tie.Need-at-requires-6
-at-requires-6 c κs = search needs
-
-returns-8 : tie.Need-returns-8
-unfolding analogLine
-returns-8 c = rw (c .at6 .ensures, ← c .before .before .before .before .before .before .before .before .before .before .before .before .before .before .before .before .before .before .before .before .before .before .before .before .names-fault .ensures, eq-eqb _ 0 (c .before .before .before .before .before .before .before .before .before .before .before .before .before .before .before .before .before .before .before .before .before .before .if1 .left), ← c .before .before .before .before .before .before .before .before .before .before .before .before .before .before .before .before .before .before .before .before .before .field-at .ensures, ← c .before .before .before .before .before .before .before .before .before .before .before .before .before .before .before .before .before .before .before .before .real-fault .ensures, eq-eqb _ 0 (c .before .before .before .before .before .before .before .before .before .before .before .before .before .before .before .before .before .before .before .if2 .left), ← c .before .before .before .before .before .before .before .before .before .before .before .before .before .before .before .before .before .before .field-at2 .ensures, ← c .before .before .before .before .before .before .before .before .before .before .before .before .before .before .before .before .before .real-fault2 .ensures, eq-eqb _ 0 (c .before .before .before .before .before .before .before .before .before .before .before .before .before .before .before .before .if3 .left), ← c .before .before .before .before .before .before .before .before .before .before .before .before .before .before .before .field-at3 .ensures, ← c .before .before .before .before .before .before .before .before .before .before .before .before .before .before .real-fault3 .ensures, eq-eqb _ 0 (c .before .before .before .before .before .before .before .before .before .before .before .before .before .if4 .left), ← c .before .before .before .before .before .before .before .before .before .before .before .before .limits-fault .ensures, eq-eqb _ 0 (c .before .before .before .before .before .before .before .before .before .before .if5 .left), ← c .before .before .before .before .before .before .before .before .before .field-at4 .ensures, ← c .before .before .before .before .before .before .before .before .real-fault4 .ensures, eq-eqb _ 0 (c .before .before .before .before .before .before .before .if6 .left), ← c .before .before .before .before .before .before .field-at5 .ensures, ← c .before .before .before .before .before .real-fault5 .ensures, eq-eqb _ 0 (c .before .before .before .before .if7 .left), ← c .before .before .before .field-at6 .ensures, ← c .before .before .side-fault .ensures, ne-eqb _ 0 (c .before .if8 .taken))
-
-at-requires-7 : tie.Need-at-requires-7
-at-requires-7 c κs = search needs
-
-returns-9 : tie.Need-returns-9
-unfolding analogLine
-returns-9 c = rw (c .at7 .ensures, ← c .before .before .before .before .before .before .before .before .before .before .before .before .before .before .before .before .before .before .before .before .before .before .before .before .names-fault .ensures, eq-eqb _ 0 (c .before .before .before .before .before .before .before .before .before .before .before .before .before .before .before .before .before .before .before .before .before .before .if1 .left), ← c .before .before .before .before .before .before .before .before .before .before .before .before .before .before .before .before .before .before .before .before .before .field-at .ensures, ← c .before .before .before .before .before .before .before .before .before .before .before .before .before .before .before .before .before .before .before .before .real-fault .ensures, eq-eqb _ 0 (c .before .before .before .before .before .before .before .before .before .before .before .before .before .before .before .before .before .before .before .if2 .left), ← c .before .before .before .before .before .before .before .before .before .before .before .before .before .before .before .before .before .before .field-at2 .ensures, ← c .before .before .before .before .before .before .before .before .before .before .before .before .before .before .before .before .before .real-fault2 .ensures, eq-eqb _ 0 (c .before .before .before .before .before .before .before .before .before .before .before .before .before .before .before .before .if3 .left), ← c .before .before .before .before .before .before .before .before .before .before .before .before .before .before .before .field-at3 .ensures, ← c .before .before .before .before .before .before .before .before .before .before .before .before .before .before .real-fault3 .ensures, eq-eqb _ 0 (c .before .before .before .before .before .before .before .before .before .before .before .before .before .if4 .left), ← c .before .before .before .before .before .before .before .before .before .before .before .before .limits-fault .ensures, eq-eqb _ 0 (c .before .before .before .before .before .before .before .before .before .before .if5 .left), ← c .before .before .before .before .before .before .before .before .before .field-at4 .ensures, ← c .before .before .before .before .before .before .before .before .real-fault4 .ensures, eq-eqb _ 0 (c .before .before .before .before .before .before .before .if6 .left), ← c .before .before .before .before .before .before .field-at5 .ensures, ← c .before .before .before .before .before .real-fault5 .ensures, eq-eqb _ 0 (c .before .before .before .before .if7 .left), ← c .before .before .before .field-at6 .ensures, ← c .before .before .side-fault .ensures, eq-eqb _ 0 (c .before .if8 .left))
+returns-7 c = rw (c .at4 .ensures, ← c .before .before .before .before .before .before .before .before .before .before .before .before .before .before .before .before .before .before .names-fault .ensures, eq-eqb _ 0 (c .before .before .before .before .before .before .before .before .before .before .before .before .before .before .before .before .if1 .left), ← c .before .before .before .before .before .before .before .before .before .before .before .before .before .before .before .scale-fault .ensures, eq-eqb _ 0 (c .before .before .before .before .before .before .before .before .before .before .before .before .before .if2 .left), ← c .before .before .before .before .before .before .before .before .before .before .before .before .limits-fault .ensures, eq-eqb _ 0 (c .before .before .before .before .before .before .before .before .before .before .if3 .left), ← c .before .before .before .before .before .before .before .before .before .field-at .ensures, ← c .before .before .before .before .before .before .before .before .real-fault .ensures, eq-eqb _ 0 (c .before .before .before .before .before .before .before .if4 .left), ← c .before .before .before .before .before .before .field-at2 .ensures, ← c .before .before .before .before .before .real-fault2 .ensures, eq-eqb _ 0 (c .before .before .before .before .if5 .left), ← c .before .before .before .field-at3 .ensures, ← c .before .before .side-fault .ensures, eq-eqb _ 0 (c .before .if6 .left))
 
 pub analog-line-spec : {M : Type 1} → statement M
 analog-line-spec =
@@ -110,31 +78,21 @@ analog-line-spec =
     (tie.spec
     names-fault-requires
     returns
+    scale-fault-requires
+    returns-2
+    limits-fault-requires
+    returns-3
     field-at-requires
     real-fault-requires
     at-requires
-    returns-2
+    returns-4
     field-at-requires-2
     real-fault-requires-2
     at-requires-2
-    returns-3
-    field-at-requires-3
-    real-fault-requires-3
-    at-requires-3
-    returns-4
-    limits-fault-requires
     returns-5
-    field-at-requires-4
-    real-fault-requires-4
-    at-requires-4
-    returns-6
-    field-at-requires-5
-    real-fault-requires-5
-    at-requires-5
-    returns-7
-    field-at-requires-6
+    field-at-requires-3
     side-fault-requires
-    at-requires-6
-    returns-8
-    at-requires-7
-    returns-9)
+    at-requires-3
+    returns-6
+    at-requires-4
+    returns-7)

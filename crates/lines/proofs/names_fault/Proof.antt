@@ -13,7 +13,7 @@ at-requires c κs = search needs
 
 returns : tie.Need-returns
 unfolding namesFault
-returns c = rw (c .at .ensures, ← c .before .before .field-count .ensures, ne-eqb _ 13 (c .before .if1 .taken))
+returns c = rw (c .at .ensures, ← c .before .before .field-count .ensures, ne-eqb _ _ (c .before .if1 .taken))
 
 field-at-requires : tie.Need-field-at-requires
 field-at-requires c κs = search needs
@@ -26,7 +26,7 @@ at-requires-2 c κs = search needs
 
 returns-2 : tie.Need-returns-2
 unfolding namesFault
-returns-2 c = rw (c .at2 .ensures, ← c .before .before .before .before .before .field-count .ensures, eq-eqb _ 13 (c .before .before .before .before .if1 .left), ← c .before .before .before .field-at .ensures, ← c .before .before .index-fault .ensures, ne-eqb _ 0 (c .before .if2 .taken))
+returns-2 c = rw (c .at2 .ensures, ← c .before .before .before .before .before .field-count .ensures, eq-eqb _ _ (c .before .before .before .before .if1 .left), ← c .before .before .before .field-at .ensures, ← c .before .before .index-fault .ensures, ne-eqb _ 0 (c .before .if2 .taken))
 
 field-at-requires-2 : tie.Need-field-at-requires-2
 field-at-requires-2 c κs = search needs
@@ -39,7 +39,7 @@ at-requires-3 c κs = search needs
 
 returns-3 : tie.Need-returns-3
 unfolding namesFault
-returns-3 c = rw (c .at3 .ensures, ← c .before .before .before .before .before .before .before .before .field-count .ensures, eq-eqb _ 13 (c .before .before .before .before .before .before .before .if1 .left), ← c .before .before .before .before .before .before .field-at .ensures, ← c .before .before .before .before .before .index-fault .ensures, eq-eqb _ 0 (c .before .before .before .before .if2 .left), ← c .before .before .before .field-at2 .ensures, ← c .before .before .text-fault .ensures, ne-eqb _ 0 (c .before .if3 .taken))
+returns-3 c = rw (c .at3 .ensures, ← c .before .before .before .before .before .before .before .before .field-count .ensures, eq-eqb _ _ (c .before .before .before .before .before .before .before .if1 .left), ← c .before .before .before .before .before .before .field-at .ensures, ← c .before .before .before .before .before .index-fault .ensures, eq-eqb _ 0 (c .before .before .before .before .if2 .left), ← c .before .before .before .field-at2 .ensures, ← c .before .before .text-fault .ensures, ne-eqb _ 0 (c .before .if3 .taken))
 
 field-at-requires-3 : tie.Need-field-at-requires-3
 field-at-requires-3 c κs = search needs
@@ -52,7 +52,7 @@ at-requires-4 c κs = search needs
 
 returns-4 : tie.Need-returns-4
 unfolding namesFault
-returns-4 c = rw (c .at4 .ensures, ← c .before .before .before .before .before .before .before .before .before .before .before .field-count .ensures, eq-eqb _ 13 (c .before .before .before .before .before .before .before .before .before .before .if1 .left), ← c .before .before .before .before .before .before .before .before .before .field-at .ensures, ← c .before .before .before .before .before .before .before .before .index-fault .ensures, eq-eqb _ 0 (c .before .before .before .before .before .before .before .if2 .left), ← c .before .before .before .before .before .before .field-at2 .ensures, ← c .before .before .before .before .before .text-fault .ensures, eq-eqb _ 0 (c .before .before .before .before .if3 .left), ← c .before .before .before .field-at3 .ensures, ← c .before .before .text-fault2 .ensures, ne-eqb _ 0 (c .before .if4 .taken))
+returns-4 c = rw (c .at4 .ensures, ← c .before .before .before .before .before .before .before .before .before .before .before .field-count .ensures, eq-eqb _ _ (c .before .before .before .before .before .before .before .before .before .before .if1 .left), ← c .before .before .before .before .before .before .before .before .before .field-at .ensures, ← c .before .before .before .before .before .before .before .before .index-fault .ensures, eq-eqb _ 0 (c .before .before .before .before .before .before .before .if2 .left), ← c .before .before .before .before .before .before .field-at2 .ensures, ← c .before .before .before .before .before .text-fault .ensures, eq-eqb _ 0 (c .before .before .before .before .if3 .left), ← c .before .before .before .field-at3 .ensures, ← c .before .before .text-fault2 .ensures, ne-eqb _ 0 (c .before .if4 .taken))
 
 field-at-requires-4 : tie.Need-field-at-requires-4
 field-at-requires-4 c κs = search needs
@@ -65,27 +65,14 @@ at-requires-5 c κs = search needs
 
 returns-5 : tie.Need-returns-5
 unfolding namesFault
-returns-5 c = rw (c .at5 .ensures, ← c .before .before .before .before .before .before .before .before .before .before .before .before .before .before .field-count .ensures, eq-eqb _ 13 (c .before .before .before .before .before .before .before .before .before .before .before .before .before .if1 .left), ← c .before .before .before .before .before .before .before .before .before .before .before .before .field-at .ensures, ← c .before .before .before .before .before .before .before .before .before .before .before .index-fault .ensures, eq-eqb _ 0 (c .before .before .before .before .before .before .before .before .before .before .if2 .left), ← c .before .before .before .before .before .before .before .before .before .field-at2 .ensures, ← c .before .before .before .before .before .before .before .before .text-fault .ensures, eq-eqb _ 0 (c .before .before .before .before .before .before .before .if3 .left), ← c .before .before .before .before .before .before .field-at3 .ensures, ← c .before .before .before .before .before .text-fault2 .ensures, eq-eqb _ 0 (c .before .before .before .before .if4 .left), ← c .before .before .before .field-at4 .ensures, ← c .before .before .text-fault3 .ensures, ne-eqb _ 0 (c .before .if5 .taken))
-
-field-at-requires-5 : tie.Need-field-at-requires-5
-field-at-requires-5 c κs = search needs
-
-text-fault-requires-4 : tie.Need-text-fault-requires-4
-text-fault-requires-4 c κs = search needs
+returns-5 c = rw (c .at5 .ensures, ← c .before .before .before .before .before .before .before .before .before .before .before .before .before .before .field-count .ensures, eq-eqb _ _ (c .before .before .before .before .before .before .before .before .before .before .before .before .before .if1 .left), ← c .before .before .before .before .before .before .before .before .before .before .before .before .field-at .ensures, ← c .before .before .before .before .before .before .before .before .before .before .before .index-fault .ensures, eq-eqb _ 0 (c .before .before .before .before .before .before .before .before .before .before .if2 .left), ← c .before .before .before .before .before .before .before .before .before .field-at2 .ensures, ← c .before .before .before .before .before .before .before .before .text-fault .ensures, eq-eqb _ 0 (c .before .before .before .before .before .before .before .if3 .left), ← c .before .before .before .before .before .before .field-at3 .ensures, ← c .before .before .before .before .before .text-fault2 .ensures, eq-eqb _ 0 (c .before .before .before .before .if4 .left), ← c .before .before .before .field-at4 .ensures, ← c .before .before .text-fault3 .ensures, ne-eqb _ 0 (c .before .if5 .taken))
 
 at-requires-6 : tie.Need-at-requires-6
 at-requires-6 c κs = search needs
 
 returns-6 : tie.Need-returns-6
 unfolding namesFault
-returns-6 c = rw (c .at6 .ensures, ← c .before .before .before .before .before .before .before .before .before .before .before .before .before .before .before .before .before .field-count .ensures, eq-eqb _ 13 (c .before .before .before .before .before .before .before .before .before .before .before .before .before .before .before .before .if1 .left), ← c .before .before .before .before .before .before .before .before .before .before .before .before .before .before .before .field-at .ensures, ← c .before .before .before .before .before .before .before .before .before .before .before .before .before .before .index-fault .ensures, eq-eqb _ 0 (c .before .before .before .before .before .before .before .before .before .before .before .before .before .if2 .left), ← c .before .before .before .before .before .before .before .before .before .before .before .before .field-at2 .ensures, ← c .before .before .before .before .before .before .before .before .before .before .before .text-fault .ensures, eq-eqb _ 0 (c .before .before .before .before .before .before .before .before .before .before .if3 .left), ← c .before .before .before .before .before .before .before .before .before .field-at3 .ensures, ← c .before .before .before .before .before .before .before .before .text-fault2 .ensures, eq-eqb _ 0 (c .before .before .before .before .before .before .before .if4 .left), ← c .before .before .before .before .before .before .field-at4 .ensures, ← c .before .before .before .before .before .text-fault3 .ensures, eq-eqb _ 0 (c .before .before .before .before .if5 .left), ← c .before .before .before .field-at5 .ensures, ← c .before .before .text-fault4 .ensures, ne-eqb _ 0 (c .before .if6 .taken))
-
-at-requires-7 : tie.Need-at-requires-7
-at-requires-7 c κs = search needs
-
-returns-7 : tie.Need-returns-7
-unfolding namesFault
-returns-7 c = rw (c .at7 .ensures, ← c .before .before .before .before .before .before .before .before .before .before .before .before .before .before .before .before .before .field-count .ensures, eq-eqb _ 13 (c .before .before .before .before .before .before .before .before .before .before .before .before .before .before .before .before .if1 .left), ← c .before .before .before .before .before .before .before .before .before .before .before .before .before .before .before .field-at .ensures, ← c .before .before .before .before .before .before .before .before .before .before .before .before .before .before .index-fault .ensures, eq-eqb _ 0 (c .before .before .before .before .before .before .before .before .before .before .before .before .before .if2 .left), ← c .before .before .before .before .before .before .before .before .before .before .before .before .field-at2 .ensures, ← c .before .before .before .before .before .before .before .before .before .before .before .text-fault .ensures, eq-eqb _ 0 (c .before .before .before .before .before .before .before .before .before .before .if3 .left), ← c .before .before .before .before .before .before .before .before .before .field-at3 .ensures, ← c .before .before .before .before .before .before .before .before .text-fault2 .ensures, eq-eqb _ 0 (c .before .before .before .before .before .before .before .if4 .left), ← c .before .before .before .before .before .before .field-at4 .ensures, ← c .before .before .before .before .before .text-fault3 .ensures, eq-eqb _ 0 (c .before .before .before .before .if5 .left), ← c .before .before .before .field-at5 .ensures, ← c .before .before .text-fault4 .ensures, eq-eqb _ 0 (c .before .if6 .left))
+returns-6 c = rw (c .at6 .ensures, ← c .before .before .before .before .before .before .before .before .before .before .before .before .before .before .field-count .ensures, eq-eqb _ _ (c .before .before .before .before .before .before .before .before .before .before .before .before .before .if1 .left), ← c .before .before .before .before .before .before .before .before .before .before .before .before .field-at .ensures, ← c .before .before .before .before .before .before .before .before .before .before .before .index-fault .ensures, eq-eqb _ 0 (c .before .before .before .before .before .before .before .before .before .before .if2 .left), ← c .before .before .before .before .before .before .before .before .before .field-at2 .ensures, ← c .before .before .before .before .before .before .before .before .text-fault .ensures, eq-eqb _ 0 (c .before .before .before .before .before .before .before .if3 .left), ← c .before .before .before .before .before .before .field-at3 .ensures, ← c .before .before .before .before .before .text-fault2 .ensures, eq-eqb _ 0 (c .before .before .before .before .if4 .left), ← c .before .before .before .field-at4 .ensures, ← c .before .before .text-fault3 .ensures, eq-eqb _ 0 (c .before .if5 .left))
 
 pub names-fault-spec : {M : Type 1} → statement M
 names-fault-spec =
@@ -110,9 +97,5 @@ names-fault-spec =
     text-fault-requires-3
     at-requires-5
     returns-5
-    field-at-requires-5
-    text-fault-requires-4
     at-requires-6
-    returns-6
-    at-requires-7
-    returns-7)
+    returns-6)

@@ -1,108 +1,161 @@
--- Laws of data files of the two binary kinds: what is written is accepted and shown, and what is accepted is what was written.
---     accepted        a file of written rows is accepted
---     reads-back      it shows each row as it was written, with its places past A and D zero
---     row-there       a row of an accepted file, read and written again, has the same bytes
---     file-back       and so has the whole file
+-- Laws of data files of every kind: what is written is accepted and shown, and what is accepted can be written.
+--     by-kind                        text or one of the binary kinds
+--     bytes-text, bytes-binary, file-text, file-binary     a row and a file that are written, by the kind
+--     length-bytes                   a row takes as many bytes as it is told to
+--     Writes                         a row that can be written: its time and its samples fit
+--     fine-back, row-back            a file of written rows is fine, and has each row as it was written, with its places past A and D zero
+--     accepted, reads-back           the same of the calls
+--     row-writes, row-trimmed        a row of any file can be written, and has its places past A and D zero
+--     file-back, file-plain          an accepted file of a binary kind is the file of its rows; the file of a text's rows is its plain form
 -- Assumes nothing.
-use mathlib.Core.Path.{_≡_, refl, _∙_}
+use mathlib.Core.Path.{_≡_, refl, sym, ap, _∙_}
 use mathlib.Core.Bool.{true}
-use mathlib.Core.List.{List}
-use Prim.Native.Nat.{ℕ, zero, suc, _+_, _-_, _*_, _^_, _<_, _≤_}
-use native.Mathlib.Nat.{add-zero}
+use mathlib.Core.List.{List, [], _++_, append-nil}
+use Prim.Native.Nat.{ℕ, _+_, _-_, _*_, _^_, _<_}
 use native.Mathlib.Omega.{arith}
-use borrow.Author.Tests.{eq-eqb, eqb-true, le-leb}
-use lib.Dec.{eqb}
-use lib.ListN.{length}
-use Rattle.lists.specs.Said.{says, _>>_, must}
+use borrow.Author.Tests.{le-leb}
+use lib.IntN.{pos}
+use lib.ListN.{length, getD}
+use Rattle.lists.specs.Said.{says}
 use Rattle.lists.specs.Tables.{every}
-use Rattle.lists.proofs.SaidLaws.{must-told}
-use Rattle.lists.proofs.Tables.{length-cat, part-cat, cat-ext, cat-part}
+use Rattle.lists.proofs.Tables.{cat-ext}
 use Rattle.words.specs.Words.{isByte}
-use Rattle.model.specs.declared.Kind.the-variants.{Ascii}
+use Rattle.words.proofs.WordLaws.{bytes-part, wordOf-part-lt}
+use Rattle.model.specs.declared.Kind.{Kind}
+use Rattle.model.specs.declared.Kind.the-variants.{Ascii, Binary, Binary32}
 use Rattle.model.specs.declared.Layout.{Layout}
 use Rattle.model.specs.declared.Row.{Row}
 use Rattle.model.specs.declared.Answer.the-variants.{Yes}
-use Rattle.model.specs.Layouts.{isSized, Sized}
-use Rattle.model.specs.Refusals.{refused}
-use Rattle.model.specs.Rows.{trimmed, misfit}
-use Rattle.model.proofs.AnswerLaws.{yes-told}
+use Rattle.model.specs.Kinds.{fitsKind, numberOf}
+use Rattle.model.specs.Layouts.{isSized}
+use Rattle.model.specs.Rows.{trimmed}
+use Rattle.model.proofs.FitLaws.{misfit-all, all-misfit}
 use Rattle.model.proofs.LayoutLaws.{sized}
-use Rattle.binary.specs.Rows.{rowSize, rowCheck, rowOf, bytesOf}
-use Rattle.words.proofs.WordLaws.{bytes-part}
-use Rattle.binary.proofs.RowLaws.{length-row, row-back, row-fine, bytes-back}
-use Rattle.data.specs.Files.{byKind, noText, hasRow, rowBytes, fileOf, rowRefusal, checkRows, checkBinary, checkFile, rowAnswer, showBinary, showRow}
-use Rattle.data.proofs.Laws.{kind-told, binary-kind, row-length, whole}
+use Rattle.binary.specs.Rows as binary
+use Rattle.binary.proofs.RowLaws as laws
+use Rattle.binaries.specs.Files.{rowBytes, checkBinary, binaryRow, binaryFile}
+use Rattle.binaries.proofs.FileLaws.{binary-accepted, binary-reads-back, binary-back}
+use Rattle.plain.specs.Rows.{textOf, textLength}
+use Rattle.plain.proofs.LengthLaws.{length-text}
+use Rattle.texts.specs.Files.{checkText, textRow, mark, textFile, plainText}
+use Rattle.texts.proofs.RoundLaws.{Fits}
+use Rattle.texts.proofs.FileLaws as texts
+use Rattle.data.specs.Files.{fileFine, rowAt, bytesOf, lengthOf, hasRow, misfitOf, checkFile, rowAnswer, showRow, endMark, fileOf}
+use Rattle.data.proofs.Laws.{text-kind, binary-kind}
 
--- a file of written rows
-module _ (l : Layout) (r : ℕ → Row) where
-  file-row : (i : ℕ) → i < l .rows → rowBytes l i (fileOf l r) ≡ bytesOf l (i + 1) (r i)
-  file-row i h = part-cat (λ j. bytesOf l (j + 1) (r j)) (rowSize l) (λ j. length-row l (j + 1) (r j)) (l .rows) i h
+pub by-kind : {C : Type 0} (k : Kind) → (k ≡ Ascii → C) → ((k ≡ Ascii → ⊥) → C) → C
+by-kind Ascii f g = f refl
+by-kind Binary f g = g (λ e. let q : 1 ≡ 0 = ap numberOf e in absurd (omega arith))
+by-kind Binary32 f g = g (λ e. let q : 2 ≡ 0 = ap numberOf e in absurd (omega arith))
 
-  rows-fine : Sized l → (i m : ℕ) → i + m ≡ l .rows → checkRows l (fileOf l r) i m ≡ says tt
-  unfolding checkRows
-  rows-fine s i zero e = refl
-  rows-fine s i (suc m) e = rw (file-row i (omega arith), row-fine l (i + 1) (r i) (omega arith)) (rows-fine s (i + 1) m (omega arith))
+-- a row that can be written
+pub record Writes (l : Layout) (r : Row) : Type 0 where
+  pub time : r .time < 2 ^ 32
+  pub all : misfitOf l r ≡ l .analogs
 
-  file-fine : Sized l → checkBinary l (fileOf l r) ≡ says tt
-  unfolding checkBinary
-  file-fine s =
-      rw (eq-eqb (length (fileOf l r)) (l .rows * rowSize l) (length-cat (λ j. bytesOf l (j + 1) (r j)) (rowSize l) (λ j. length-row l (j + 1) (r j)) (l .rows)))
-      (rows-fine s 0 (l .rows) (omega arith))
+module _ (l : Layout) (text : l .kind ≡ Ascii) where
+  pub bytes-text : (n : ℕ) (r : Row) → bytesOf l n r ≡ textOf l n r
+  unfolding bytesOf
+  bytes-text n r = text-kind (l .kind) (textOf l n r) (binary.bytesOf l n r) text
 
-  pub accepted : isSized l ≡ true → (l .kind ≡ Ascii → ⊥) → checkFile l (fileOf l r) ≡ Yes
-  unfolding checkFile
-  accepted ok b = rw (ok, binary-kind (l .kind) noText (checkBinary l (fileOf l r)) b, file-fine (sized l ok))
-
-  pub reads-back : isSized l ≡ true → (l .kind ≡ Ascii → ⊥) → (i : ℕ) → i < l .rows
-      → misfit (l .kind) (r i .samples) (l .analogs) ≡ l .analogs → r i .time < 2 ^ 32 → showRow l (fileOf l r) (i + 1) ≡ rowAnswer (says (trimmed l (r i)))
-  unfolding showRow showBinary hasRow
-  reads-back ok b i h f t =
-      let e : i + 1 - 1 ≡ i = omega arith in
+  pub file-text : (r : ℕ → Row) → fileOf l r ≡ textFile l r
+  unfolding fileOf endMark
+  file-text r =
       rw (
-        ok,
-        binary-kind (l .kind) noText (showBinary l (fileOf l r) (i + 1)) b,
-        le-leb 1 (i + 1) (omega arith),
-        le-leb (i + 1) (l .rows) (omega arith),
-        file-fine (sized l ok),
-        e,
-        file-row i h,
-        row-back l (i + 1) (r i) f t,
+        text-kind (l .kind) mark [] text,
+        cat-ext (λ i. bytesOf l (i + 1) (r i)) (λ i. textOf l (i + 1) (r i)) (l .rows) (λ i h. bytes-text (i + 1) (r i)),
       )
 
--- an accepted file
-module _ (l : Layout) (s : List ℕ) where
-  -- each of m rows from i on is fine
-  rows-told : (i m : ℕ) → checkRows l s i m ≡ says tt → (j : ℕ) → j < m → rowCheck l (i + j + 1) (rowBytes l (i + j) s) ≡ 0
-  unfolding checkRows
-  rows-told i zero e j h = absurd (omega arith)
-  rows-told i (suc m) e zero h =
-      let k = rowCheck l (i + 1) (rowBytes l i s) in
-      rw add-zero (eqb-true k 0 (must-told (eqb k 0) (rowRefusal k (i + 1)) (checkRows l s (i + 1) m) tt e .0))
-  rows-told i (suc m) e (suc j) h =
-      let k = rowCheck l (i + 1) (rowBytes l i s) in
-      let q : i + suc j ≡ i + 1 + j = omega arith in
-      rw q (rows-told (i + 1) m (must-told (eqb k 0) (rowRefusal k (i + 1)) (checkRows l s (i + 1) m) tt e .1) j (omega arith))
+  fits-text : (r : Row) → Writes l r → Fits l r
+  unfolding misfitOf
+  fits-text r w = record { time = w .time; samples = λ i h. ap (λ (k : Kind). fitsKind k (getD (r .samples) i (pos 0))) (sym text) ∙ misfit-all (l .kind) (r .samples) (l .analogs) (w .all) i h }
 
-  binary-fine : checkFile l s ≡ Yes → checkBinary l s ≡ says tt
+  text-writes : (r : Row) → Fits l r → Writes l r
+  unfolding misfitOf
+  text-writes r f = record { time = f .time; all = all-misfit (l .kind) (r .samples) (l .analogs) (λ i h. ap (λ (k : Kind). fitsKind k (getD (r .samples) i (pos 0))) text ∙ f .samples i h) }
+
+module _ (l : Layout) (other : l .kind ≡ Ascii → ⊥) where
+  pub bytes-binary : (n : ℕ) (r : Row) → bytesOf l n r ≡ binary.bytesOf l n r
+  unfolding bytesOf
+  bytes-binary n r = binary-kind (l .kind) (textOf l n r) (binary.bytesOf l n r) other
+
+  pub file-binary : (r : ℕ → Row) → fileOf l r ≡ binaryFile l r
+  unfolding fileOf endMark
+  file-binary r =
+      rw (
+        binary-kind (l .kind) mark [] other,
+        append-nil,
+        cat-ext (λ i. bytesOf l (i + 1) (r i)) (λ i. binary.bytesOf l (i + 1) (r i)) (l .rows) (λ i h. bytes-binary (i + 1) (r i)),
+      )
+
+pub length-bytes : (l : Layout) (n : ℕ) (r : Row) → lengthOf l n r ≡ length (bytesOf l n r)
+unfolding lengthOf
+length-bytes l n r =
+    by-kind (l .kind)
+    (λ e. rw (text-kind (l .kind) (textLength l n r) (binary.rowSize l) e, bytes-text l e n r) (length-text l n r))
+    (λ e. rw (binary-kind (l .kind) (textLength l n r) (binary.rowSize l) e, bytes-binary l e n r) (sym (laws.length-row l n r)))
+
+-- a file of written rows
+module _ (l : Layout) (ok : isSized l ≡ true) (r : ℕ → Row) (writes : (i : ℕ) → i < l .rows → Writes l (r i)) where
+  pub fine-back : fileFine l (fileOf l r) ≡ says tt
+  unfolding fileFine
+  fine-back =
+      by-kind (l .kind)
+      (λ e. rw (text-kind (l .kind) (checkText l (fileOf l r)) (checkBinary l (fileOf l r)) e, file-text l e r) (texts.text-accepted l (sized l ok) r (λ i h. fits-text l e (r i) (writes i h))))
+      (λ e. rw (binary-kind (l .kind) (checkText l (fileOf l r)) (checkBinary l (fileOf l r)) e, file-binary l e r) (binary-accepted l r (sized l ok)))
+
+  pub row-back : (i : ℕ) → i < l .rows → rowAt l (fileOf l r) i ≡ trimmed l (r i)
+  unfolding rowAt misfitOf
+  row-back i h =
+      by-kind (l .kind)
+      (λ e. rw (text-kind (l .kind) (textRow l i (fileOf l r)) (binaryRow l i (fileOf l r)) e, file-text l e r) (texts.text-reads-back l (sized l ok) r (λ j k. fits-text l e (r j) (writes j k)) i h))
+      (λ e.
+      rw (binary-kind (l .kind) (textRow l i (fileOf l r)) (binaryRow l i (fileOf l r)) e, file-binary l e r)
+      (binary-reads-back l r i h (writes i h .all) (writes i h .time)))
+
+  pub accepted : checkFile l (fileOf l r) ≡ Yes
   unfolding checkFile
-  binary-fine e =
-      let any = byKind (l .kind) noText (checkBinary l s) in
-      kind-told (l .kind) (checkBinary l s) tt (must-told (isSized l) (refused 10 0 0) any tt (yes-told (must (isSized l) (refused 10 0 0) >> any) e) .1)
+  accepted = rw (ok, fine-back)
 
-  back : checkFile l s ≡ Yes → every isByte s ≡ true → (i : ℕ) → i < l .rows → bytesOf l (i + 1) (rowOf l (rowBytes l i s)) ≡ rowBytes l i s
-  back e b i h =
-      let w = whole l s (binary-fine e) in
-      let z : 0 + i ≡ i = omega arith in
-      bytes-back l (i + 1) (rowBytes l i s) (row-length l s i (w .0) h) (bytes-part (i * rowSize l) (i * rowSize l + rowSize l) s b)
-      (rw z at (rows-told 0 (l .rows) (w .1) i h))
+  pub reads-back : (i : ℕ) → i < l .rows → showRow l (fileOf l r) (i + 1) ≡ rowAnswer (says (trimmed l (r i)))
+  unfolding showRow hasRow
+  reads-back i h =
+      let e : i + 1 - 1 ≡ i = omega arith in
+      rw (ok, le-leb 1 (i + 1) (omega arith), le-leb (i + 1) (l .rows) (omega arith), fine-back, e, row-back i h)
 
-  pub row-there : checkFile l s ≡ Yes → every isByte s ≡ true → (n : ℕ) → 1 ≤ n → n ≤ l .rows
-      → bytesOf l n (rowOf l (rowBytes l (n - 1) s)) ≡ rowBytes l (n - 1) s
-  row-there e b n h k =
-      let q : n - 1 + 1 ≡ n = omega arith in
-      rw q at (back e b (n - 1) (omega arith))
+-- any file
+module _ (l : Layout) (s : List ℕ) (bytes : every isByte s ≡ true) where
+  pub row-writes : (i : ℕ) → Writes l (rowAt l s i)
+  unfolding rowAt binaryRow misfitOf binary.rowOf
+  row-writes i =
+      by-kind (l .kind)
+      (λ e. rw (text-kind (l .kind) (textRow l i s) (binaryRow l i s) e) (text-writes l e (textRow l i s) (texts.row-fits l i s)))
+      (λ e.
+      let b = rowBytes l i s in
+      let h = bytes-part (i * binary.rowSize l) (i * binary.rowSize l + binary.rowSize l) s bytes in
+      rw (binary-kind (l .kind) (textRow l i s) (binaryRow l i s) e)
+      (record { time = wordOf-part-lt b 4 8 4 h (omega arith); all = laws.row-fits l b h }))
 
-  pub file-back : checkFile l s ≡ Yes → every isByte s ≡ true → fileOf l (λ i. rowOf l (rowBytes l i s)) ≡ s
-  file-back e b =
-      cat-ext (λ i. bytesOf l (i + 1) (rowOf l (rowBytes l i s))) (λ i. rowBytes l i s) (l .rows) (back e b)
-      ∙ cat-part s (rowSize l) (l .rows) (whole l s (binary-fine e) .0)
+  pub row-trimmed : (i : ℕ) → trimmed l (rowAt l s i) ≡ rowAt l s i
+  unfolding rowAt binaryRow
+  row-trimmed i =
+      by-kind (l .kind)
+      (λ e. rw (text-kind (l .kind) (textRow l i s) (binaryRow l i s) e) (texts.text-trimmed l i s))
+      (λ e. rw (binary-kind (l .kind) (textRow l i s) (binaryRow l i s) e) (laws.row-trimmed l (rowBytes l i s)))
+
+  pub file-back : (l .kind ≡ Ascii → ⊥) → fileFine l s ≡ says tt → fileOf l (rowAt l s) ≡ s
+  unfolding fileFine rowAt
+  file-back e fine =
+      let f : checkBinary l s ≡ says tt = rw (binary-kind (l .kind) (checkText l s) (checkBinary l s) e) at fine in
+      file-binary l e (rowAt l s)
+      ∙ cat-ext (λ i. binary.bytesOf l (i + 1) (rowAt l s i)) (λ i. binary.bytesOf l (i + 1) (binaryRow l i s)) (l .rows)
+      (λ i h. rw (binary-kind (l .kind) (textRow l i s) (binaryRow l i s) e))
+      ∙ binary-back l s f bytes
+
+  pub file-plain : l .kind ≡ Ascii → fileOf l (rowAt l s) ≡ plainText l s
+  unfolding rowAt
+  file-plain e =
+      file-text l e (rowAt l s)
+      ∙ ap (λ (t : List ℕ). t ++ mark)
+      (cat-ext (λ i. textOf l (i + 1) (rowAt l s i)) (λ i. textOf l (i + 1) (textRow l i s)) (l .rows)
+      (λ i h. rw (text-kind (l .kind) (textRow l i s) (binaryRow l i s) e)))

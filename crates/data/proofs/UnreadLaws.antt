@@ -1,18 +1,44 @@
 -- Places past A and D are not read when a row is written.
---     unread     the answer, and what the buffer holds at the end, are those of the row with these places zero
+--     unread-row     the bytes of a row are those of the row with these places zero
+--     unread         and so are the answer, and what the buffer holds at the end
 -- Assumes nothing.
-use mathlib.Core.Path.{_≡_}
+use mathlib.Core.Path.{_≡_, refl, sym, ap, _∙_}
+use mathlib.Core.Bool.{false}
 use mathlib.Core.List.{List}
 use Prim.Native.Nat.{ℕ, _≤_}
-use lib.ListN.{length}
+use lib.IntN.{pos}
+use lib.ListN.{length, getD}
+use Rattle.lists.proofs.Filled.{getD-padded}
 use Rattle.model.specs.declared.Layout.{Layout}
 use Rattle.model.specs.declared.Row.{Row}
 use Rattle.model.specs.Rows.{trimmed}
 use Rattle.model.proofs.FitLaws.{unread-misfit}
 use Rattle.binary.proofs.RowLaws.{unread-bytes}
-use Rattle.data.specs.Files.{writeBinary, writeAnswer, writtenTo}
+use Rattle.plain.proofs.LineLaws.{unread-text}
+use Rattle.data.specs.Files.{bytesOf, lengthOf, misfitOf, writeAnswer, writtenTo}
+use Rattle.data.proofs.FileLaws.{by-kind, bytes-text, bytes-binary, length-bytes}
 
-pub unread : (l : Layout) (r : Row) (n : ℕ) (out : List ℕ) → l .statuses ≤ length (r .statuses)
-    → (writeAnswer l n (trimmed l r) (length out) ≡ writeAnswer l n r (length out)) × (writtenTo l n (trimmed l r) out ≡ writtenTo l n r out)
-unfolding writtenTo writeAnswer writeBinary
-unread l r n out h = (rw (unread-misfit l r), rw (unread-misfit l r, unread-bytes l r n h))
+module _ (l : Layout) (r : Row) (n : ℕ) (enough : l .statuses ≤ length (r .statuses)) where
+  pub unread-row : bytesOf l n (trimmed l r) ≡ bytesOf l n r
+  unfolding trimmed
+  unread-row =
+      by-kind (l .kind)
+      (λ e.
+      rw (bytes-text l e n (trimmed l r), bytes-text l e n r)
+      (unread-text l n (trimmed l r) r refl
+      (λ i h. getD-padded (λ j. getD (r .samples) j (pos 0)) (l .analogs) 96 i (pos 0) (pos 0) h)
+      (λ i h. getD-padded (λ j. getD (r .statuses) j false) (l .statuses) 256 i false false h)))
+      (λ e. rw (bytes-binary l e n (trimmed l r), bytes-binary l e n r) (unread-bytes l r n enough))
+
+  unread-length : lengthOf l n (trimmed l r) ≡ lengthOf l n r
+  unread-length = length-bytes l n (trimmed l r) ∙ ap length unread-row ∙ sym (length-bytes l n r)
+
+  unread-fit : misfitOf l (trimmed l r) ≡ misfitOf l r
+  unfolding misfitOf
+  unread-fit = unread-misfit l r
+
+  pub unread : (out : List ℕ)
+      → (writeAnswer l n (trimmed l r) (length out) ≡ writeAnswer l n r (length out))
+      × (writtenTo l n (trimmed l r) out ≡ writtenTo l n r out)
+  unfolding writeAnswer writtenTo
+  unread out = (rw (unread-length, unread-fit), rw (unread-length, unread-fit, unread-row))

@@ -1,4 +1,4 @@
-// Data files: check, show a row, write a row.
+// Data files of every kind: check, show a row, write a row.
 // Each call gives, on any input, exactly what the definition of its name says, and a refusal changes no byte; the laws of proofs/ say that a file of written rows is accepted and shows them.
 use model::Answer;
 use model::Kind;
@@ -6,13 +6,13 @@ use model::Layout;
 use model::Refusal;
 use model::Row;
 ghost use mathlib.Core.Path.{_≡_};
-ghost use Prim.Native.Nat.{_*_, _-_, _≤_};
+ghost use Prim.Native.Nat.{_<_};
 ghost use lib.ListN.{length};
-ghost use Rattle.model.specs.Layouts.{Sized};
-ghost use Rattle.model.specs.Refusals.{answerOf};
 ghost use Rattle.lists.specs.Said.{refuses};
-ghost use Rattle.binary.specs.Rows.{rowSize, rowOf};
-ghost use Rattle.data.specs.Files.{hasRow, rowBytes, rowRefusal, checkRows, checkBinary, checkFile, rowAnswer, showBinary, showRow, written, writeBinary, writeAnswer, writtenTo};
+ghost use Rattle.model.specs.Layouts.{Sized};
+ghost use Rattle.binaries.specs.Files.{checkBinary, binaryRow};
+ghost use Rattle.texts.specs.Files.{checkText, textRow};
+ghost use Rattle.data.specs.Files.{bytesOf, lengthOf, hasRow, misfitOf, checkFile, rowAnswer, shown, showRow, written, writeAnswer, writtenTo};
 
 // A row, or a refusal and the row with every place zero.
 pub struct RowAnswer {
@@ -36,48 +36,6 @@ fn has_row(layout: Layout, n: u32) -> bool
     n <= layout.rows
 }
 
-// The refusal of row n, by what its check found: its number is field 1, its padding no field's.
-fn row_refusal(found: u32, n: u32) -> Refusal
-    ensures { λ r. ⌜ r ≡ rowRefusal found n ⌝ }
-{
-    if found == 12 {
-        return model::refused(12, n, 1);
-    }
-    model::refused(13, n, 0)
-}
-
-// The rows of a file, each at its place.
-fn check_rows(layout: Layout, data: &[u8]) -> Answer
-    requires { ⌜ (Sized layout) × (length (now «data») ≡ layout .rows * rowSize layout) ⌝ }
-    ensures { λ r. ⌜ r ≡ answerOf (checkRows layout (now («data» .entry)) 0 (layout .rows)) ⌝ }
-{
-    let size = binary::row_size(layout);
-    let rows = layout.rows;
-    let mut i: u32 = 0;
-    while i < rows {
-        let from = i as usize * size;
-        let to = from + size;
-        i += 1;
-        let found = binary::row_check(layout, i, &data[from..to]);
-        if found != 0 {
-            return Answer::No(row_refusal(found, i));
-        }
-    }
-    Answer::Yes
-}
-
-// A file of the binary kinds: its length, then its rows.
-fn check_binary(layout: Layout, data: &[u8]) -> Answer
-    requires { ⌜ Sized layout ⌝ }
-    ensures { λ r. ⌜ r ≡ answerOf (checkBinary layout (now («data» .entry))) ⌝ }
-{
-    let rows = layout.rows as usize;
-    if data.len() != rows * binary::row_size(layout) {
-        return Answer::No(model::refused(11, 0, 0));
-    }
-    check_rows(layout, data)
-}
-
 // Whether a data file is accepted, or the first refusal.
 pub fn check(layout: Layout, data: &[u8]) -> Answer
     ensures { λ r. ⌜ r ≡ checkFile layout (now («data» .entry)) ⌝ }
@@ -87,8 +45,8 @@ pub fn check(layout: Layout, data: &[u8]) -> Answer
     }
     let kind = layout.kind;
     match kind {
-        Kind::Ascii => Answer::No(model::refused(10, 0, 0)),
-        Kind::Binary | Kind::Binary32 => check_binary(layout, data),
+        Kind::Ascii => texts::check_text(layout, data),
+        Kind::Binary | Kind::Binary32 => binaries::check_binary(layout, data),
     }
 }
 
@@ -103,29 +61,33 @@ fn not_shown(refusal: Refusal) -> RowAnswer
     }
 }
 
-// Row n of a file that was accepted.
-fn row_at(layout: Layout, data: &[u8], n: u32) -> Row
-    requires { ⌜ (Sized layout) × (length (now «data») ≡ layout .rows * rowSize layout) × (1 ≤ n) × (n ≤ layout .rows) ⌝ }
-    ensures { λ r. ⌜ r ≡ rowOf layout (rowBytes layout (n - 1) (now («data» .entry))) ⌝ }
+// Row i of a file of text, counted from 0.
+fn show_text(layout: Layout, data: &[u8], i: u32) -> RowAnswer
+    requires { ⌜ (Sized layout) × (i < layout .rows) ⌝ }
+    ensures { λ r. ⌜ r ≡ shown (checkText layout (now («data» .entry))) (textRow layout i (now («data» .entry))) ⌝ }
 {
-    let size = binary::row_size(layout);
-    let from = (n - 1) as usize * size;
-    let to = from + size;
-    binary::row_of(layout, &data[from..to])
-}
-
-// Row n of a file of the binary kinds.
-fn show_binary(layout: Layout, data: &[u8], n: u32) -> RowAnswer
-    requires { ⌜ Sized layout ⌝ }
-    ensures { λ r. ⌜ r ≡ rowAnswer (showBinary layout (now («data» .entry)) n) ⌝ }
-{
-    if !has_row(layout, n) {
-        return not_shown(model::refused(15, 0, 0));
-    }
-    let answer = check_binary(layout, data);
+    let answer = texts::check_text(layout, data);
     match answer {
         Answer::Yes => {
-            let row = row_at(layout, data, n);
+            let row = texts::row_at(layout, data, i);
+            RowAnswer {
+                answer: Answer::Yes,
+                row: row,
+            }
+        }
+        Answer::No(refusal) => not_shown(refusal),
+    }
+}
+
+// Row i of a file of the binary kinds, counted from 0.
+fn show_binary(layout: Layout, data: &[u8], i: u32) -> RowAnswer
+    requires { ⌜ (Sized layout) × (i < layout .rows) ⌝ }
+    ensures { λ r. ⌜ r ≡ shown (checkBinary layout (now («data» .entry))) (binaryRow layout i (now («data» .entry))) ⌝ }
+{
+    let answer = binaries::check_binary(layout, data);
+    match answer {
+        Answer::Yes => {
+            let row = binaries::row_at(layout, data, i);
             RowAnswer {
                 answer: Answer::Yes,
                 row: row,
@@ -142,34 +104,26 @@ pub fn show_row(layout: Layout, data: &[u8], n: u32) -> RowAnswer
     if !layout.is_sized() {
         return not_shown(model::refused(10, 0, 0));
     }
+    if !has_row(layout, n) {
+        return not_shown(model::refused(15, 0, 0));
+    }
     let kind = layout.kind;
     match kind {
-        Kind::Ascii => not_shown(model::refused(10, 0, 0)),
-        Kind::Binary | Kind::Binary32 => show_binary(layout, data, n),
+        Kind::Ascii => show_text(layout, data, n - 1),
+        Kind::Binary | Kind::Binary32 => show_binary(layout, data, n - 1),
     }
 }
 
-// How many bytes row n takes in the binary kinds, or why it is not written where there is room for so many.
-fn may_write_binary(layout: Layout, n: u32, row: Row, room: usize) -> Written
+// How many bytes row n takes.
+fn row_length(layout: Layout, n: u32, row: Row) -> usize
     requires { ⌜ Sized layout ⌝ }
-    ensures { λ r. ⌜ r ≡ written (writeBinary layout n row room) ⌝ }
+    ensures { λ r. ⌜ r ≡ lengthOf layout n row ⌝ }
 {
-    if !has_row(layout, n) {
-        return Written::No(model::refused(15, 0, 0));
-    }
     let kind = layout.kind;
-    let a = layout.analogs as usize;
-    let samples = row.samples;
-    let bad = model::first_misfit(kind, samples, a);
-    let field = 3 + bad as u32;
-    let size = binary::row_size(layout);
-    if bad != a {
-        return Written::No(model::refused(16, n, field));
+    match kind {
+        Kind::Ascii => plain::text_length(layout, n, row),
+        Kind::Binary | Kind::Binary32 => binary::row_size(layout),
     }
-    if room < size {
-        return Written::No(model::refused(17, 0, 0));
-    }
-    Written::Bytes(size)
 }
 
 // How many bytes row n takes, or why it is not written where there is room for so many.
@@ -179,10 +133,37 @@ fn may_write(layout: Layout, n: u32, row: Row, room: usize) -> Written
     if !layout.is_sized() {
         return Written::No(model::refused(10, 0, 0));
     }
+    if !has_row(layout, n) {
+        return Written::No(model::refused(15, 0, 0));
+    }
+    let kind = layout.kind;
+    let a = layout.analogs as usize;
+    let samples = row.samples;
+    let bad = model::first_misfit(kind, samples, a);
+    let field = 3 + bad as u32;
+    let size = row_length(layout, n, row);
+    if bad != a {
+        return Written::No(model::refused(16, n, field));
+    }
+    if room < size {
+        return Written::No(model::refused(17, 0, 0));
+    }
+    Written::Bytes(size)
+}
+
+// The bytes of row n fill the slice.
+fn put_row(layout: Layout, n: u32, row: Row, d: &mut [u8])
+    requires { ⌜ (Sized layout) × (length (now d) ≡ lengthOf layout n row) × (misfitOf layout row ≡ layout .analogs) ⌝ }
+    ensures { λ _. ⌜ now (d .exit) ≡ bytesOf layout n row ⌝ }
+{
     let kind = layout.kind;
     match kind {
-        Kind::Ascii => Written::No(model::refused(10, 0, 0)),
-        Kind::Binary | Kind::Binary32 => may_write_binary(layout, n, row, room),
+        Kind::Ascii => {
+            plain::put_text(layout, n, row, d);
+        }
+        Kind::Binary | Kind::Binary32 => {
+            binary::put_row(layout, n, row, d);
+        }
     }
 }
 
@@ -194,7 +175,7 @@ pub fn write_row(layout: Layout, n: u32, row: Row, out: &mut [u8]) -> Written
     let answer = may_write(layout, n, row, room);
     match answer {
         Written::Bytes(size) => {
-            binary::put_row(layout, n, row, &mut out[..size]);
+            put_row(layout, n, row, &mut out[..size]);
             answer
         }
         Written::No(_) => answer,

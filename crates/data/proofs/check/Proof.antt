@@ -1,11 +1,13 @@
 -- `check` meets its contract: a layout within the sizes, and then what the file says by its kind.
-use mathlib.Core.Path.{_≡_, sym, _∙_}
-use mathlib.Core.Bool.{true}
-use borrow.Author.Tests.{not-true, not-false}
-use Rattle.model.specs.Layouts.{isSized}
-use Rattle.model.proofs.LayoutLaws.{sized}
-use Rattle.data.specs.Files.{noText, checkBinary, checkFile}
 use Rattle.data.proofs.Laws.{binary-arm}
+use Rattle.data.specs.Files.{fileFine, checkFile}
+use Rattle.binaries.specs.Files.{checkBinary}
+use Rattle.texts.specs.Files.{checkText}
+use Rattle.model.proofs.LayoutLaws.{sized}
+use Rattle.model.specs.Layouts.{isSized}
+use borrow.Author.Tests.{not-true, not-false}
+use mathlib.Core.Bool.{true}
+use mathlib.Core.Path.{_≡_, sym, _∙_}
 use borrow.Author.Needs.{needs}
 use Rattle.data.proofs.check.Statement.{statement}
 use Rattle.data.proofs.check.Tie as tie
@@ -15,8 +17,8 @@ is-sized-requires c κs = search needs
 
 refused-requires : tie.Need-refused-requires
 refused-requires c κs = search needs
+    -- the layout is within the sizes
 
--- the layout is within the sizes
 ok : (c : tie.Else1) → isSized (c .before .before .before .args .layout) ≡ true
 ok c = sym (c .before .is-sized .ensures) ∙ not-false (c .before .is-sized .result) (c .if1 .left)
 
@@ -27,21 +29,21 @@ returns c = rw (c .refused .ensures, ← c .before .before .is-sized .ensures, n
 enum-told : tie.Need-enum-told
 enum-told c = search needs
 
-refused-requires-2 : tie.Need-refused-requires-2
-refused-requires-2 c κs = search needs
+check-text-requires : tie.Need-check-text-requires
+check-text-requires c κs = sized (c .before .before .before .before .before .args .layout) (ok (c .before .before))
 
 check-binary-requires : tie.Need-check-binary-requires
 check-binary-requires c κs = sized (c .before .before .before .before .args .layout) (ok (c .before))
 
 returns-2 : tie.Need-returns-2
-unfolding checkFile
-returns-2 c = rw (c .refused2 .ensures, ok (c .before .before .before), c .before .enum-told .given .1)
+unfolding checkFile fileFine
+returns-2 c = rw (c .check-text .ensures, ok (c .before .before .before), c .before .enum-told .given .1)
 
 returns-3 : tie.Need-returns-3
-unfolding checkFile
+unfolding checkFile fileFine
 returns-3 c =
     let a = c .before .before .before .before .before .args in
-    rw (c .check-binary .ensures, ok (c .before .before), binary-arm (a .layout .kind) noText (checkBinary (a .layout) (a .«data» .now)) (c .before .match .keys2))
+    rw (c .check-binary .ensures, ok (c .before .before), binary-arm (a .layout .kind) (checkText (a .layout) (a .«data» .now)) (checkBinary (a .layout) (a .«data» .now)) (c .before .match .keys2))
 
 pub check-spec : {M : Type 1} → statement M
 check-spec =
@@ -51,7 +53,7 @@ check-spec =
     refused-requires
     returns
     enum-told
-    refused-requires-2
+    check-text-requires
     check-binary-requires
     returns-2
     returns-3)

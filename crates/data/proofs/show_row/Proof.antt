@@ -1,11 +1,15 @@
--- `show_row` meets its contract: a layout within the sizes, and then the row by the kind.
-use mathlib.Core.Path.{_≡_, sym, _∙_}
-use mathlib.Core.Bool.{true}
-use borrow.Author.Tests.{not-true, not-false}
-use Rattle.model.specs.Layouts.{isSized}
+-- `show_row` meets its contract: a layout within the sizes, a row that there is, and then the row by the kind.
+use Rattle.data.proofs.Laws.{binary-arm, row-told}
+use Rattle.data.specs.Files.{fileFine, rowAt, hasRow, showRow}
+use Rattle.binaries.specs.Files.{checkBinary, binaryRow}
+use Rattle.texts.specs.Files.{checkText, textRow}
 use Rattle.model.proofs.LayoutLaws.{sized}
-use Rattle.data.specs.Files.{noText, showBinary, showRow}
-use Rattle.data.proofs.Laws.{binary-arm}
+use Rattle.model.specs.Layouts.{isSized, Sized}
+use borrow.Author.Tests.{not-true, not-false}
+use native.Mathlib.Omega.{arith}
+use Prim.Native.Nat.{_≤_, _<_, _-_}
+use mathlib.Core.Bool.{true}
+use mathlib.Core.Path.{_≡_, sym, _∙_}
 use borrow.Author.Needs.{needs}
 use Rattle.data.proofs.show_row.Statement.{statement}
 use Rattle.data.proofs.show_row.Tie as tie
@@ -18,8 +22,8 @@ refused-requires c κs = search needs
 
 not-shown-requires : tie.Need-not-shown-requires
 not-shown-requires c κs = search needs
+    -- the layout is within the sizes
 
--- the layout is within the sizes
 ok : (c : tie.Else1) → isSized (c .before .before .before .args .layout) ≡ true
 ok c = sym (c .before .is-sized .ensures) ∙ not-false (c .before .is-sized .result) (c .if1 .left)
 
@@ -27,8 +31,8 @@ returns : tie.Need-returns
 unfolding showRow
 returns c = rw (c .not-shown .ensures, c .before .refused .ensures, ← c .before .before .before .is-sized .ensures, not-true (c .before .before .before .is-sized .result) (c .before .before .if1 .taken))
 
-enum-told : tie.Need-enum-told
-enum-told c = search needs
+has-row-requires : tie.Need-has-row-requires
+has-row-requires c κs = search needs
 
 refused-requires-2 : tie.Need-refused-requires-2
 refused-requires-2 c κs = search needs
@@ -36,18 +40,55 @@ refused-requires-2 c κs = search needs
 not-shown-requires-2 : tie.Need-not-shown-requires-2
 not-shown-requires-2 c κs = search needs
 
-show-binary-requires : tie.Need-show-binary-requires
-show-binary-requires c κs = sized (c .before .before .before .before .args .layout) (ok (c .before))
-
 returns-2 : tie.Need-returns-2
 unfolding showRow
-returns-2 c = rw (c .not-shown2 .ensures, c .before .refused2 .ensures, ok (c .before .before .before .before), c .before .before .enum-told .given .1)
+returns-2 c = rw (c .not-shown2 .ensures, c .before .refused2 .ensures, ok (c .before .before .before .before), ← c .before .before .before .has-row .ensures, not-true (c .before .before .before .has-row .result) (c .before .before .if2 .taken))
+
+enum-told : tie.Need-enum-told
+enum-told c = search needs
+    -- the row is one of the file's
+
+there : (c : tie.Else2) → hasRow (c .before .before .before .before .before .args .layout) (c .before .before .before .before .before .args .n) ≡ true
+there c = sym (c .before .has-row .ensures) ∙ not-false (c .before .has-row .result) (c .if2 .left)
+
+asked : (c : tie.Else2) → (1 ≤ c .before .before .before .before .before .args .n) × ((Sized (c .before .before .before .before .before .args .layout)) × (c .before .before .before .before .before .args .n - 1 < c .before .before .before .before .before .args .layout .rows))
+asked c =
+    let s = c .before .before .before .before .before .args in
+    let t = row-told (s .layout) (s .n) (there c) in
+    (t .0, (sized (s .layout) (ok (c .before .before)), omega arith))
+
+sub-show-text : tie.Need-sub-show-text
+sub-show-text c = asked (c .before .before) .0
+
+show-text-requires : tie.Need-show-text-requires
+show-text-requires c κs = asked (c .before .before) .1
+
+sub-show-binary : tie.Need-sub-show-binary
+sub-show-binary c = asked (c .before) .0
+
+show-binary-requires : tie.Need-show-binary-requires
+show-binary-requires c κs = asked (c .before) .1
 
 returns-3 : tie.Need-returns-3
-unfolding showRow
+unfolding showRow fileFine rowAt
 returns-3 c =
-    let a = c .before .before .before .before .before .args in
-    rw (c .show-binary .ensures, ok (c .before .before), binary-arm (a .layout .kind) noText (showBinary (a .layout) (a .«data» .now) (a .n)) (c .before .match .keys2))
+    let k = c .before .before .before in
+    rw (c .show-text .ensures, ok (k .before .before), there k, c .before .enum-told .given .1)
+
+returns-4 : tie.Need-returns-4
+unfolding showRow fileFine rowAt
+returns-4 c =
+    let k = c .before .before in
+    let a = c .before .before .before .before .before .before .before .args in
+    let l = a .layout in
+    let s = a .«data» .now in
+    rw (
+      c .show-binary .ensures,
+      ok (k .before .before),
+      there k,
+      binary-arm (l .kind) (checkText l s) (checkBinary l s) (c .before .match .keys2),
+      binary-arm (l .kind) (textRow l (a .n - 1) s) (binaryRow l (a .n - 1) s) (c .before .match .keys2),
+    )
 
 pub show-row-spec : {M : Type 1} → statement M
 show-row-spec =
@@ -57,9 +98,14 @@ show-row-spec =
     refused-requires
     not-shown-requires
     returns
-    enum-told
+    has-row-requires
     refused-requires-2
     not-shown-requires-2
-    show-binary-requires
     returns-2
-    returns-3)
+    enum-told
+    sub-show-text
+    show-text-requires
+    sub-show-binary
+    show-binary-requires
+    returns-3
+    returns-4)

@@ -16,7 +16,7 @@ enum-known-answer : tie.Need-enum-known-answer
 enum-known-answer c = search needs
 
 -- what the answer says
-told : (c : tie.After-answer) → Writable (c .before .before .before .before .args .layout) (c .before .before .before .before .args .row) (length (c .before .before .before .before .args .out .now)) (c .answer .given .0 .0)
+told : (c : tie.After-answer) → Writable (c .before .before .before .before .args .layout) (c .before .before .before .before .args .n) (c .before .before .before .before .args .row) (length (c .before .before .before .before .args .out .now)) (c .answer .given .0 .0)
 told c =
     let a = c .before .before .before .before .args in
     writable (a .layout) (a .n) (a .row) (length (a .out .now)) (c .answer .given .0 .0) (sym (c .before .before .may-write .ensures) ∙ c .answer .given .1)

@@ -1,15 +1,15 @@
 -- `put_case` is safe and ends.
-use lib.Seq.{length-take-le}
 use mathlib.Core.Path.{sym}
+use lib.Seq.{length-take-le}
 use borrow.Author.Needs.{needs}
 use Rattle.rulings.proofs.put_case.Statement.{statement}
 use Rattle.rulings.proofs.put_case.Tie as tie
 
-line-start-requires : tie.Need-line-start-requires
-line-start-requires c κs = search needs
+part-start-requires : tie.Need-part-start-requires
+part-start-requires c κs = search needs
 
 slice-aggregate-push-all : tie.Need-slice-aggregate-push-all
-slice-aggregate-push-all c = sym (length-take-le _ _ (c .before .before .line-start .ensures))
+slice-aggregate-push-all c = sym (length-take-le _ _ (c .before .before .part-start .ensures))
 
 push-all-requires : tie.Need-push-all-requires
 push-all-requires c κs = search needs
@@ -51,7 +51,7 @@ pub put-case-spec : {M : Type 1} → statement M
 put-case-spec =
     tie.close
     (tie.spec
-    line-start-requires
+    part-start-requires
     slice-aggregate-push-all
     push-all-requires
     put-text-requires

@@ -1,0 +1,51 @@
+-- `binaries::check_binary` meets its contract: the file's length, and then what its rows say.
+use Prim.Native.Nat.{_*_}
+use native.Mathlib.Nat.{mul-le-mul}
+use native.Mathlib.Omega.{arith}
+use borrow.Author.Tests.{eq-eqb, ne-eqb}
+use lib.ListN.{length}
+use Rattle.binary.proofs.SizeLaws.{size-le}
+use Rattle.binaries.specs.Files.{checkBinary}
+use borrow.Author.Needs.{needs}
+use Rattle.binaries.proofs.check_binary.Statement.{statement}
+use Rattle.binaries.proofs.check_binary.Tie as tie
+
+cast-rows : tie.Need-cast-rows
+cast-rows c = search needs
+
+row-size-requires : tie.Need-row-size-requires
+row-size-requires c κs = search needs
+
+mul-if1 : tie.Need-mul-if1
+mul-if1 c =
+    let s = c .before .before .before in
+    rw (c .row-size .ensures) (omega (arith, mul-le-mul (s .pre .rows) (size-le (s .args .layout) (s .pre))))
+
+refused-requires : tie.Need-refused-requires
+refused-requires c κs = search needs
+
+returns : tie.Need-returns
+unfolding checkBinary
+returns c =
+    let z = c .before .before in
+    let a = z .before .before .before .args in
+    rw (c .refused .ensures, ← z .row-size .ensures, ne-eqb (length (a .«data» .now)) (a .layout .rows * z .row-size .result) (λ e. omega arith))
+
+check-rows-requires : tie.Need-check-rows-requires
+check-rows-requires c κs = (c .before .before .before .before .pre, rw (← c .before .row-size .ensures) (omega arith))
+
+returns-2 : tie.Need-returns-2
+unfolding checkBinary
+returns-2 c = rw (c .check-rows .ensures, ← c .before .before .row-size .ensures, eq-eqb _ _ (c .before .if1 .left))
+
+pub check-binary-spec : {M : Type 1} → statement M
+check-binary-spec =
+    tie.close
+    (tie.spec
+    cast-rows
+    row-size-requires
+    mul-if1
+    refused-requires
+    returns
+    check-rows-requires
+    returns-2)

@@ -1,0 +1,50 @@
+-- `put_row` meets its contract: the kind's writer fills the slice.
+use Rattle.data.proofs.Laws.{binary-arm}
+use Rattle.data.specs.Files.{bytesOf, lengthOf, misfitOf}
+use Rattle.plain.specs.Rows as plain
+use Rattle.binary.specs.Rows as binary
+use mathlib.Core.Path.{sym, _∙_}
+use borrow.Author.Needs.{needs}
+use Rattle.data.proofs.put_row.Statement.{statement}
+use Rattle.data.proofs.put_row.Tie as tie
+
+enum-told : tie.Need-enum-told
+enum-told c = search needs
+
+put-text-requires : tie.Need-put-text-requires
+unfolding lengthOf
+put-text-requires c κs = (c .before .before .before .before .pre .0, c .before .before .before .before .pre .1 ∙ rw (c .before .enum-told .given .1))
+
+put-row-requires : tie.Need-put-row-requires
+unfolding lengthOf misfitOf
+put-row-requires c κs =
+    let a = c .before .before .before .args in
+    (c .before .before .before .pre .0, c .before .before .before .pre .1 ∙ binary-arm (a .layout .kind) (plain.textLength (a .layout) (a .n) (a .row)) (binary.rowSize (a .layout)) (c .before .match .keys2), c .before .before .before .pre .2)
+
+same-length : tie.Need-same-length
+same-length c = search needs
+
+returns : tie.Need-returns
+unfolding bytesOf
+returns c = c .before .before .put-text .ensures ∙ rw (c .before .before .before .before .enum-told .given .1)
+
+same-length-2 : tie.Need-same-length-2
+same-length-2 c = search needs
+
+returns-2 : tie.Need-returns-2
+unfolding bytesOf
+returns-2 c =
+    let a = c .before .before .before .before .before .before .args in
+    c .before .before .put-row .ensures ∙ sym (binary-arm (a .layout .kind) (plain.textOf (a .layout) (a .n) (a .row)) (binary.bytesOf (a .layout) (a .n) (a .row)) (c .before .before .before .before .match .keys2))
+
+pub put-row-spec : {M : Type 1} → statement M
+put-row-spec =
+    tie.close
+    (tie.spec
+    enum-told
+    put-text-requires
+    put-row-requires
+    same-length
+    returns
+    same-length-2
+    returns-2)

@@ -1,0 +1,4 @@
+pub mod Laws
+pub mod RoundLaws
+pub mod FileLaws
+pub mod PlainLaws

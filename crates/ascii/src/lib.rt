@@ -12,7 +12,7 @@ ghost use Prim.Native.Nat.{_+_, _≤_, _<_, _^_};
 ghost use lib.IntN.{pos};
 ghost use lib.ListN.{length};
 ghost use Rattle.lists.specs.Tables.{tab, padded};
-ghost use Rattle.text.specs.Fields.{afterFields};
+ghost use Rattle.text.specs.Fields.{fieldAt};
 ghost use Rattle.model.specs.Layouts.{Sized};
 ghost use Rattle.model.specs.Refusals.{answerOf};
 ghost use Rattle.ascii.specs.Fields.{readTime, readSample, isStatus, isCount, isWhole, timeIn, sampleIn, statusIn};
@@ -231,6 +231,22 @@ fn statuses_of(fields: &[u8], d: usize) -> [bool; 256]
     out
 }
 
+// The timestamp of a line.
+pub fn line_time(line: &[u8]) -> u32
+    ensures { λ r. ⌜ r ≡ timeIn (fieldAt 2 (now (line .entry))) ⌝ }
+{
+    time_in(text::field_at(line, 2))
+}
+
+// The samples of a line, and zeros.
+pub fn line_samples(layout: Layout, line: &[u8]) -> [i32; 96]
+    requires { ⌜ Sized layout ⌝ }
+    ensures { λ r. ⌜ r ≡ rowOf layout (now (line .entry)) .samples ⌝ }
+{
+    let a = layout.analogs as usize;
+    samples_of(text::after_fields(line, 2), a)
+}
+
 // The row that a line says.
 pub fn row_of(layout: Layout, line: &[u8]) -> Row
     requires { ⌜ Sized layout ⌝ }
@@ -238,8 +254,8 @@ pub fn row_of(layout: Layout, line: &[u8]) -> Row
 {
     let a = layout.analogs as usize;
     let d = layout.statuses as usize;
-    let time = time_in(text::field_at(line, 2));
-    let samples = samples_of(text::after_fields(line, 2), a);
+    let time = line_time(line);
+    let samples = line_samples(layout, line);
     let statuses = statuses_of(text::after_fields(line, 2 + a), d);
     Row {
         time: time,

@@ -5,8 +5,8 @@
 --     Writes                         a row that can be written: its time and its samples fit
 --     fine-back, row-back            a file of written rows is fine, and has each row as it was written, with its places past A and D zero
 --     accepted, reads-back           the same of the calls
---     row-writes, row-trimmed        a row of any file can be written, and has its places past A and D zero
---     file-back, file-plain          an accepted file of a binary kind is the file of its rows; the file of a text's rows is its plain form
+--     row-writes, row-trimmed        a row of an accepted file can be written, and has its places past A and D zero
+--     file-back, file-plain          an accepted file is the file of its rows; a text is so in its plain form
 -- Assumes nothing.
 use mathlib.Core.Path.{_≡_, refl, sym, ap, _∙_}
 use mathlib.Core.Bool.{true}

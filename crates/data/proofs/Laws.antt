@@ -1,6 +1,6 @@
 -- Laws of the kinds, and of what an answer says of the rule that gave it.
 --     text-kind                   text
---     binary-arm, binary-kind     the two binary kinds, by their places among the kinds, or as those that are not text
+--     binary-arm, not-text, binary-kind     the two binary kinds, by their places among the kinds, or as those that are not text
 --     row-told                    a row that there is
 --     writable                    what an answer that a row is written says of the layout, the row and the room
 -- Assumes nothing.
@@ -40,6 +40,9 @@ binary-arm Binary32 text binary h = refl
 
 pub text-kind : {A : Type 0} (k : Kind) (text binary : A) → k ≡ Ascii → byKind k text binary ≡ text
 text-kind k text binary e = rw e
+
+pub not-text : (k : Kind) → OneOf (1 ∷ (2 ∷ [])) (tagOf the-type k) → k ≡ Ascii → ⊥
+not-text k h e = omega (arith, binary-arm {A = ℕ} k 0 1 h, text-kind {A = ℕ} k 0 1 e)
 
 pub binary-kind : {A : Type 0} (k : Kind) (text binary : A) → (k ≡ Ascii → ⊥) → byKind k text binary ≡ binary
 binary-kind Ascii text binary h = absurd (h refl)

@@ -115,7 +115,7 @@ pub fn show_row(layout: Layout, data: &[u8], n: u32) -> RowAnswer
 }
 
 // How many bytes row n takes.
-fn row_length(layout: Layout, n: u32, row: Row) -> usize
+pub fn row_length(layout: Layout, n: u32, row: Row) -> usize
     requires { ⌜ Sized layout ⌝ }
     ensures { λ r. ⌜ r ≡ lengthOf layout n row ⌝ }
 {
@@ -152,7 +152,7 @@ fn may_write(layout: Layout, n: u32, row: Row, room: usize) -> Written
 }
 
 // The bytes of row n fill the slice.
-fn put_row(layout: Layout, n: u32, row: Row, d: &mut [u8])
+pub fn put_row(layout: Layout, n: u32, row: Row, d: &mut [u8])
     requires { ⌜ (Sized layout) × (length (now d) ≡ lengthOf layout n row) × (misfitOf layout row ≡ layout .analogs) ⌝ }
     ensures { λ _. ⌜ now (d .exit) ≡ bytesOf layout n row ⌝ }
 {

@@ -11,7 +11,7 @@ use Rattle.numerals.specs.Decimals.{decimalIn, decimal, plain}
 use Rattle.model.specs.declared.Kind.the-variants.{Ascii}
 use Rattle.model.specs.declared.Layout.{Layout}
 use Rattle.model.specs.declared.Row.{Row}
-use Rattle.plain.specs.Rows.{lineOf, textOf, textLength}
+use Rattle.plain.specs.Rows.{lineOf, textOf, lengthBy, lengthBy, textLength}
 
 abbrev layout : ℕ → ℕ → Layout
 layout a d = record { analogs = a; statuses = d; rows = 5; kind = Ascii }
@@ -29,5 +29,5 @@ pub examples :
     × (textLength (layout 6 6) 5 sample ≡ 45)
     × (textOf (layout 1 0) 10 sample ≡ quoted "10,667,-760\r\n")
     × (textOf (layout 0 2) 1 sample ≡ quoted "1,667,0,0\r\n")
-unfolding decimalIn decimal plain lineOf textOf textLength
+unfolding decimalIn decimal plain lineOf textOf lengthBy
 examples = (refl, refl, refl, refl)

@@ -28,7 +28,7 @@ use Rattle.model.specs.declared.Row.{Row}
 use Rattle.model.specs.Kinds.{fitsKind}
 use Rattle.model.specs.Layouts.{Sized}
 use Rattle.model.proofs.KindLaws.{fits-size}
-use Rattle.plain.specs.Rows.{headText, samplesText, statusText, statusesText, lineOf, textOf, headLength, samplesLength, textLength}
+use Rattle.plain.specs.Rows.{headText, samplesText, statusText, statusesText, lineOf, textOf, headLength, samplesLength, lengthBy, lengthBy, textLength}
 
 pub decimal-short : (v : ℕ) → v < 2 ^ 32 → length (decimal v) ≤ 10
 decimal-short v h = length-decimal-le 9 v (omega arith)
@@ -78,7 +78,7 @@ module _ (l : Layout) (n : ℕ) (r : Row) where
       ∙ omega (arith, length-append z s, head-long n (r .time), samples-long (r .samples) (l .analogs), statuses-long (l .statuses) (r .statuses))
 
   pub text-line : textLength l n r ≡ length (lineOf l n r) + 2
-  unfolding textLength
+  unfolding lengthBy
   text-line = omega (arith, length-line)
 
   pub length-text : textLength l n r ≡ length (textOf l n r)

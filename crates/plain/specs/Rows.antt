@@ -53,6 +53,10 @@ abbrev pub samplesLength : List ℤ → ℕ → ℕ
 samplesLength zs zero = 0
 samplesLength zs (suc a) = samplesLength zs a + (1 + length (plain (getD zs a (pos 0))))
 
+-- how many bytes a plain row takes with this timestamp and these samples
+unfoldable pub lengthBy : Layout → ℕ → ℕ → List ℤ → ℕ
+lengthBy l n time zs = headLength n time + (samplesLength zs (l .analogs) + (2 * l .statuses + 2))
+
 -- how many bytes the plain written row takes
-unfoldable pub textLength : Layout → ℕ → Row → ℕ
-textLength l n r = headLength n (r .time) + (samplesLength (r .samples) (l .analogs) + (2 * l .statuses + 2))
+abbrev pub textLength : Layout → ℕ → Row → ℕ
+textLength l n r = lengthBy l n (r .time) (r .samples)

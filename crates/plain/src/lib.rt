@@ -8,7 +8,7 @@ ghost use Prim.Native.Nat.{_+_, _*_, _≤_};
 ghost use lib.ListN.{length};
 ghost use Rattle.numerals.specs.Decimals.{decimal, plain};
 ghost use Rattle.model.specs.Layouts.{Sized};
-ghost use Rattle.plain.specs.Rows.{headText, samplesText, statusChar, statusesText, lineOf, textOf, headLength, samplesLength, textLength};
+ghost use Rattle.plain.specs.Rows.{headText, samplesText, statusChar, statusesText, lineOf, textOf, headLength, samplesLength, lengthBy, textLength};
 
 const COMMA: u8 = 44;
 
@@ -46,16 +46,25 @@ pub fn samples_length(zs: &[i32], a: usize) -> usize
     n
 }
 
+// How many bytes row n takes with this timestamp and these samples.
+pub fn length_by(layout: Layout, n: u32, time: u32, zs: &[i32]) -> usize
+    requires { ⌜ (Sized layout) × (96 ≤ length (now zs)) ⌝ }
+    ensures { λ r. ⌜ r ≡ lengthBy layout n time (now (zs .entry)) ⌝ }
+    ensures { λ r. ⌜ r ≤ 2048 ⌝ }
+{
+    let a = layout.analogs as usize;
+    let count = layout.statuses as usize;
+    head_length(n, time) + (samples_length(zs, a) + (STATUS * count + END))
+}
+
 // How many bytes row n takes.
 pub fn text_length(layout: Layout, n: u32, row: Row) -> usize
     requires { ⌜ Sized layout ⌝ }
     ensures { λ r. ⌜ r ≡ textLength layout n row ⌝ }
 {
-    let a = layout.analogs as usize;
-    let count = layout.statuses as usize;
     let time = row.time;
     let zs = row.samples;
-    head_length(n, time) + (samples_length(&zs, a) + (STATUS * count + END))
+    length_by(layout, n, time, &zs)
 }
 
 // A comma and the timestamp fill the slice.

@@ -47,9 +47,13 @@ isEnding (b ∷ c ∷ []) = false
 isEnding (b ∷ c ∷ d ∷ []) = eqb b 26 && eqb c 13 && eqb d 10
 isEnding (b ∷ c ∷ d ∷ e ∷ s) = false
 
+-- what follows the last row, where row n would stand
+abbrev pub checkEnd : ℕ → List ℕ → Said Refusal (Unit {0})
+checkEnd n s = must (isEnding s) (refused 11 n 0)
+
 -- m rows are fine, from row n on, with which s begins, and then its end
 unfoldable pub checkRows : Layout → List ℕ → ℕ → ℕ → Said Refusal (Unit {0})
-checkRows l s n zero = must (isEnding s) (refused 11 n 0)
+checkRows l s n zero = checkEnd n s
 checkRows l s n (suc m) = do
   taken ← checkRow l n s
   checkRows l (drop taken s) (n + 1) m

@@ -9,7 +9,7 @@ ghost use mathlib.Core.Path.{_≡_};
 ghost use Prim.Native.Nat.{_≤_};
 ghost use Rattle.model.specs.Layouts.{Sized};
 ghost use Rattle.model.specs.Refusals.{answerOf};
-ghost use Rattle.texts.specs.Files.{scanRow, checkRow, isEnding, checkText, checkedOf, lineTaken, firstLine, afterRows, textRow};
+ghost use Rattle.texts.specs.Files.{scanRow, checkRow, isEnding, checkEnd, checkText, checkedOf, lineTaken, firstLine, afterRows, textRow};
 
 // The most bytes of a row before its line end.
 const MOST: usize = 1880;
@@ -21,7 +21,7 @@ pub enum Checked {
 }
 
 // Row n, with which `rest` begins: its line, then the fields of its line.
-fn check_row(layout: Layout, n: u32, rest: &[u8]) -> Checked
+pub fn check_row(layout: Layout, n: u32, rest: &[u8]) -> Checked
     requires { ⌜ Sized layout ⌝ }
     ensures { λ r. ⌜ r ≡ checkedOf (checkRow layout n (now (rest .entry))) ⌝ }
 {
@@ -60,6 +60,16 @@ fn is_ending(s: &[u8]) -> bool
     s[2] == 10
 }
 
+// What follows the last row, where row n would stand.
+pub fn check_end(n: u32, rest: &[u8]) -> Answer
+    ensures { λ r. ⌜ r ≡ answerOf (checkEnd n (now (rest .entry))) ⌝ }
+{
+    if !is_ending(rest) {
+        return Answer::No(model::refused(11, n, 0));
+    }
+    Answer::Yes
+}
+
 // The file: row by row, then its end.
 pub fn check_text(layout: Layout, data: &[u8]) -> Answer
     requires { ⌜ Sized layout ⌝ }
@@ -79,14 +89,11 @@ pub fn check_text(layout: Layout, data: &[u8]) -> Answer
             }
         }
     }
-    if !is_ending(t) {
-        return Answer::No(model::refused(11, n, 0));
-    }
-    Answer::Yes
+    check_end(n, t)
 }
 
 // How many bytes the line that `rest` begins with takes, none where there is no line.
-fn line_taken(rest: &[u8]) -> usize
+pub fn line_taken(rest: &[u8]) -> usize
     ensures { λ r. ⌜ r ≡ lineTaken (scanRow (now (rest .entry))) ⌝ }
 {
     match text::scan_line(rest, MOST) {
@@ -97,7 +104,7 @@ fn line_taken(rest: &[u8]) -> usize
 }
 
 // The line that `rest` begins with.
-fn first_line<'a>(rest: &'a [u8]) -> &'a [u8]
+pub fn first_line<'a>(rest: &'a [u8]) -> &'a [u8]
     ensures { λ r. ⌜ now r ≡ firstLine (now (rest .entry)) ⌝ }
 {
     match text::scan_line(rest, MOST) {

@@ -5,7 +5,6 @@ use Rattle.texts.proofs.Laws.{takes-told, not-told, row-fine, rows-turn
 use Rattle.texts.specs.Files.{checkRow, checkRows, checkText}
 use Rattle.lists.proofs.Walk.{rest}
 use lib.ListN.{length, length-drop}
-use borrow.Author.Tests.{not-true, not-false}
 use native.Mathlib.Omega.{arith}
 use Prim.Native.Nat.{_≤_, _+_, _-_}
 use mathlib.Core.Path.{_≡_, sym, _∙_}
@@ -66,23 +65,14 @@ loop-again c = (
   c .before .before .before .before .before .before .loop .inv .3 ∙ rw (rows-turn _ (c .before .before .before .before .before .before .loop .t .now) (c .before .before .before .before .before .before .loop .n) (c .before .before .before .before .before .before .before .before .args .layout .rows + 1) (omega (arith, c .before .before .before .before .before .loop-test .taken)), told (c .before), rest),
 )
 
-is-ending-requires : tie.Need-is-ending-requires Inv-loop μ-loop
-is-ending-requires c κs = search needs
-
-refused-requires : tie.Need-refused-requires Inv-loop μ-loop
-refused-requires c κs = search needs
+check-end-requires : tie.Need-check-end-requires Inv-loop μ-loop
+check-end-requires c κs = search needs
 
 returns-2 : tie.Need-returns-2 Inv-loop μ-loop
 unfolding checkText checkRows
 returns-2 c =
-    let e : c .before .before .before .before .before .before .args .layout .rows + 1 - c .before .before .before .before .loop .n ≡ 0 = omega (arith, c .before .before .before .loop-test .left) in
-    rw (c .refused .ensures, c .before .before .before .before .loop .inv .3, e, ← c .before .before .is-ending .ensures, not-true (c .before .before .is-ending .result) (c .before .if1 .taken))
-
-returns-3 : tie.Need-returns-3 Inv-loop μ-loop
-unfolding checkText checkRows
-returns-3 c =
-    let e : c .before .before .before .before .before .args .layout .rows + 1 - c .before .before .before .loop .n ≡ 0 = omega (arith, c .before .before .loop-test .left) in
-    rw (c .before .before .before .loop .inv .3, e, ← c .before .is-ending .ensures, not-false (c .before .is-ending .result) (c .if1 .left))
+    let e : c .before .before .before .before .args .layout .rows + 1 - c .before .before .loop .n ≡ 0 = omega (arith, c .before .loop-test .left) in
+    rw (c .check-end .ensures, c .before .before .loop .inv .3, e)
 
 pub check-text-spec : {M : Type 1} → statement M
 check-text-spec =
@@ -101,7 +91,5 @@ check-text-spec =
     add-n
     loop-less
     loop-again
-    is-ending-requires
-    refused-requires
-    returns-2
-    returns-3)
+    check-end-requires
+    returns-2)

@@ -1,0 +1,113 @@
+-- The demands on data files and on the change of kind, as theorems on the definitions.
+--     reads-back            demand 2: a file of written rows is accepted, and shows each row as it was written
+--     stands                demand 2: a row of an accepted file of a binary kind, shown and written again, has the bytes that stand there
+--     fits-exactly          the rows of a file fit a kind exactly when no sample is outside its range
+--     decided-exactly       demand 3: a change of an accepted file is refused where a sample does not fit, or else where the output is too short
+--     same-rows             demand 3: if not, the new file is accepted, and each row's time, samples and statuses are as before
+--     back-binary, back-text     demand 3: changing back gives the first file byte for byte, or its plain form
+-- Assumes nothing.
+use mathlib.Core.Path.{_≡_, refl, ap, _∙_}
+use mathlib.Core.Bool.{true}
+use mathlib.Core.List.{List, _++_}
+use Prim.Native.Nat.{ℕ, zero, suc, _+_, _<_}
+use native.Mathlib.Omega.{arith}
+use borrow.Author.Tests.{eq-eqb}
+use lib.Dec.{leb}
+use lib.ListN.{length}
+use Rattle.lists.specs.Said.{Said, says, refuses, _>>=_, _>>_, must}
+use Rattle.lists.specs.Tables.{every}
+use Rattle.lists.proofs.SaidLaws.{must-holds, then-told}
+use Rattle.lists.proofs.Tables.{cat-ext}
+use Rattle.words.specs.Words.{isByte}
+use Rattle.model.specs.declared.Kind.{Kind}
+use Rattle.model.specs.declared.Kind.the-variants.{Ascii}
+use Rattle.model.specs.declared.Layout.{Layout}
+use Rattle.model.specs.declared.Row.{Row}
+use Rattle.model.specs.declared.Refusal.{Refusal}
+use Rattle.model.specs.declared.Answer.the-variants.{Yes}
+use Rattle.model.specs.Layouts.{isSized}
+use Rattle.model.specs.Refusals.{refused}
+use Rattle.model.specs.Rows.{trimmed}
+use Rattle.model.proofs.AnswerLaws.{yes-told}
+use Rattle.texts.specs.Files.{plainText}
+use Rattle.data.specs.Files.{fileFine, rowAt, bytesOf, misfitOf, checkFile, rowAnswer, showRow, written, fileOf, endMark}
+use Rattle.data.proofs.FileLaws as files
+use Rattle.change.specs.Change.{inKind, fitRows, fileLength, needsBytes, changeAnswer, changed, AllFit}
+use Rattle.change.proofs.WriteLaws.{length-file, fit-all}
+
+-- DEMAND 2. A written row, standing in an accepted file, reads back the same: its places past A and D zero
+pub reads-back : (l : Layout) → isSized l ≡ true → (r : ℕ → Row) → ((i : ℕ) → i < l .rows → files.Writes l (r i))
+    → (checkFile l (fileOf l r) ≡ Yes) × ((i : ℕ) → i < l .rows → showRow l (fileOf l r) (i + 1) ≡ rowAnswer (says (trimmed l (r i))))
+reads-back l ok r writes = (files.accepted l ok r writes, files.reads-back l ok r writes)
+
+-- every row fits exactly when no row is refused
+all-fit : (l : Layout) (r : ℕ → Row) (i m : ℕ) → ((j : ℕ) → j < m → misfitOf l (r (i + j)) ≡ l .analogs) → fitRows l r i m ≡ says tt
+unfolding fitRows
+all-fit l r i zero h = refl
+all-fit l r i (suc m) h =
+    let z : i + 0 ≡ i = omega arith in
+    let f : misfitOf l (r i) ≡ l .analogs = rw z at (h 0 (omega arith)) in
+    rw (eq-eqb (misfitOf l (r i)) (l .analogs) f)
+    (all-fit l r (i + 1) m (λ j k. let q : i + 1 + j ≡ i + suc j = omega arith in rw q (h (suc j) (omega arith))))
+
+pub fits-exactly : (l : Layout) (r : ℕ → Row) → (fitRows l r 0 (l .rows) ≡ says tt → AllFit l r) × (AllFit l r → fitRows l r 0 (l .rows) ≡ says tt)
+fits-exactly l r = (fit-all l r, λ h. all-fit l r 0 (l .rows) (λ j k. let q : 0 + j ≡ j = omega arith in rw q (h j k)))
+
+-- an accepted file
+accepted-fine : (l : Layout) (s : List ℕ) → checkFile l s ≡ Yes → (isSized l ≡ true) × (fileFine l s ≡ says tt)
+unfolding checkFile
+accepted-fine l s e =
+    let t = then-told (must (isSized l) (refused 10 0 0)) (fileFine l s) tt (yes-told (must (isSized l) (refused 10 0 0) >> fileFine l s) e) in
+    (must-holds (isSized l) (refused 10 0 0) (t .0), t .1)
+
+-- DEMAND 3, when a change is refused: 16 where a sample does not fit, or else 17 where the output is shorter than the new file
+pub decided-exactly : (l : Layout) (s : List ℕ) (k : Kind) (room : ℕ) → checkFile l s ≡ Yes
+    → changeAnswer l s k room
+    ≡ written (fitRows (inKind k l) (rowAt l s) 0 (l .rows) >> (must (leb (length (changed l s k)) room) (refused 17 0 0) >> says (length (changed l s k))))
+unfolding changeAnswer needsBytes changed
+decided-exactly l s k room e =
+    let a = accepted-fine l s e in
+    rw (a .0, a .1, ← length-file (inKind k l) (rowAt l s)) (ap written (go (fitRows (inKind k l) (rowAt l s) 0 (l .rows)) (fileLength (inKind k l) (rowAt l s))))
+  where
+    go : (x : Said Refusal (Unit {0})) (m : ℕ)
+        → ((x >> says m) >>= (λ j. must (leb j room) (refused 17 0 0) >> says j)) ≡ (x >> (must (leb m room) (refused 17 0 0) >> says m))
+    go (says u) m = refl
+    go (refuses r) m = refl
+
+-- a file that is accepted, and whose rows fit the new kind
+module _ (l : Layout) (s : List ℕ) (k : Kind) (e : checkFile l s ≡ Yes) (bytes : every isByte s ≡ true) (fit : AllFit (inKind k l) (rowAt l s)) where
+  writes : (i : ℕ) → i < l .rows → files.Writes (inKind k l) (rowAt l s i)
+  writes i h = record { time = files.row-writes l s bytes i .time; all = fit i h }
+
+  sized-new : isSized (inKind k l) ≡ true
+  unfolding isSized
+  sized-new = accepted-fine l s e .0
+
+  -- a row's places are those of the channels, whatever the kind
+  same-places : (r : Row) → trimmed (inKind k l) r ≡ trimmed l r
+  unfolding trimmed
+  same-places r = refl
+
+  same-row : (i : ℕ) → i < l .rows → rowAt (inKind k l) (changed l s k) i ≡ rowAt l s i
+  unfolding changed
+  same-row i h = files.row-back (inKind k l) sized-new (rowAt l s) writes i h ∙ same-places (rowAt l s i) ∙ files.row-trimmed l s bytes i
+
+  -- DEMAND 3, the new file: accepted for the same channels and rows, and each row the same
+  pub same-rows : (checkFile (inKind k l) (changed l s k) ≡ Yes) × ((i : ℕ) → i < l .rows → rowAt (inKind k l) (changed l s k) i ≡ rowAt l s i)
+  unfolding changed
+  same-rows = (files.accepted (inKind k l) sized-new (rowAt l s) writes, same-row)
+
+  -- changing back writes the first file's rows
+  back : changed (inKind k l) (changed l s k) (l .kind) ≡ fileOf l (rowAt l s)
+  unfolding fileOf changed
+  back =
+      ap (λ (x : List ℕ). x ++ endMark l)
+      (cat-ext (λ i. bytesOf l (i + 1) (rowAt (inKind k l) (changed l s k) i)) (λ i. bytesOf l (i + 1) (rowAt l s i)) (l .rows)
+      (λ i h. ap (bytesOf l (i + 1)) (same-row i h)))
+
+  -- DEMAND 3, changing back: byte for byte for the binary kinds, and the plain form for text
+  pub back-binary : (l .kind ≡ Ascii → ⊥) → changed (inKind k l) (changed l s k) (l .kind) ≡ s
+  back-binary other = back ∙ files.file-back l s bytes other (accepted-fine l s e .1)
+
+  pub back-text : l .kind ≡ Ascii → changed (inKind k l) (changed l s k) (l .kind) ≡ plainText l s
+  back-text text = back ∙ files.file-plain l s bytes text

@@ -1,15 +1,16 @@
 -- The demands on data files and on the change of kind, as theorems on the definitions.
 --     reads-back            demand 2: a file of written rows is accepted, and shows each row as it was written
---     stands                demand 2: a row of an accepted file of a binary kind, shown and written again, has the bytes that stand there
+--     shown-exactly         demand 2: an accepted file shows each of its rows; a file that is not, or a row that there is not, is refused with zeros
+--     says-binary, says-text     demand 2: what is shown is what the bytes say: the rows shown, written again, are the file, or its plain form
 --     fits-exactly          the rows of a file fit a kind exactly when no sample is outside its range
 --     decided-exactly       demand 3: a change of an accepted file is refused where a sample does not fit, or else where the output is too short
 --     same-rows             demand 3: if not, the new file is accepted, and each row's time, samples and statuses are as before
 --     back-binary, back-text     demand 3: changing back gives the first file byte for byte, or its plain form
 -- Assumes nothing.
-use mathlib.Core.Path.{_≡_, refl, ap, _∙_}
+use mathlib.Core.Path.{_≡_, refl, sym, ap, _∙_}
 use mathlib.Core.Bool.{true}
 use mathlib.Core.List.{List, _++_}
-use Prim.Native.Nat.{ℕ, zero, suc, _+_, _<_}
+use Prim.Native.Nat.{ℕ, zero, suc, _+_, _-_, _<_}
 use native.Mathlib.Omega.{arith}
 use borrow.Author.Tests.{eq-eqb}
 use lib.Dec.{leb}
@@ -29,8 +30,12 @@ use Rattle.model.specs.Layouts.{isSized}
 use Rattle.model.specs.Refusals.{refused}
 use Rattle.model.specs.Rows.{trimmed}
 use Rattle.model.proofs.AnswerLaws.{yes-told}
-use Rattle.texts.specs.Files.{plainText}
-use Rattle.data.specs.Files.{fileFine, rowAt, bytesOf, misfitOf, checkFile, rowAnswer, showRow, written, fileOf, endMark}
+use Rattle.model.proofs.LayoutLaws.{sized}
+use Rattle.binaries.specs.Files.{checkBinary}
+use Rattle.texts.specs.Files.{checkText, Plain, plainText}
+use Rattle.texts.proofs.PlainLaws.{exactly-plain}
+use Rattle.data.proofs.Laws.{text-kind}
+use Rattle.data.specs.Files.{fileFine, rowAt, bytesOf, hasRow, misfitOf, checkFile, rowAnswer, showRow, written, fileOf, endMark}
 use Rattle.data.proofs.FileLaws as files
 use Rattle.change.specs.Change.{inKind, fitRows, fileLength, needsBytes, changeAnswer, changed, AllFit}
 use Rattle.change.proofs.WriteLaws.{length-file, fit-all}
@@ -39,6 +44,34 @@ use Rattle.change.proofs.WriteLaws.{length-file, fit-all}
 pub reads-back : (l : Layout) → isSized l ≡ true → (r : ℕ → Row) → ((i : ℕ) → i < l .rows → files.Writes l (r i))
     → (checkFile l (fileOf l r) ≡ Yes) × ((i : ℕ) → i < l .rows → showRow l (fileOf l r) (i + 1) ≡ rowAnswer (says (trimmed l (r i))))
 reads-back l ok r writes = (files.accepted l ok r writes, files.reads-back l ok r writes)
+
+-- an accepted file is of a sized layout, and fine
+accepted-fine : (l : Layout) (s : List ℕ) → checkFile l s ≡ Yes → (isSized l ≡ true) × (fileFine l s ≡ says tt)
+unfolding checkFile
+accepted-fine l s e =
+    let t = then-told (must (isSized l) (refused 10 0 0)) (fileFine l s) tt (yes-told (must (isSized l) (refused 10 0 0) >> fileFine l s) e) in
+    (must-holds (isSized l) (refused 10 0 0) (t .0), t .1)
+
+fine-text : (l : Layout) (s : List ℕ) → l .kind ≡ Ascii → fileFine l s ≡ says tt → checkText l s ≡ says tt
+unfolding fileFine
+fine-text l s text e = sym (text-kind (l .kind) (checkText l s) (checkBinary l s) text) ∙ e
+
+-- DEMAND 2. What is shown: of an accepted file each row that there is
+pub shown-exactly : (l : Layout) (s : List ℕ) (n : ℕ) → checkFile l s ≡ Yes → hasRow l n ≡ true → showRow l s n ≡ rowAnswer (says (rowAt l s (n - 1)))
+unfolding showRow
+shown-exactly l s n e h = let a = accepted-fine l s e in rw (a .0, h, a .1)
+
+-- DEMAND 2. It is what the bytes say: the rows that an accepted file shows, written again, are the file, or for text its plain form
+pub says-binary : (l : Layout) (s : List ℕ) → checkFile l s ≡ Yes → every isByte s ≡ true → (l .kind ≡ Ascii → ⊥) → fileOf l (rowAt l s) ≡ s
+says-binary l s e bytes other = files.file-back l s bytes other (accepted-fine l s e .1)
+
+pub says-text : (l : Layout) (s : List ℕ) → checkFile l s ≡ Yes → every isByte s ≡ true → l .kind ≡ Ascii
+    → (fileOf l (rowAt l s) ≡ plainText l s) × (Plain l s → fileOf l (rowAt l s) ≡ s)
+says-text l s e bytes text =
+    let f = files.file-plain l s bytes text in
+    let a = accepted-fine l s e in
+    let fine : checkText l s ≡ says tt = fine-text l s text (a .1) in
+    (f, λ p. f ∙ exactly-plain l s (sized l (a .0)) fine .0 p)
 
 -- every row fits exactly when no row is refused
 all-fit : (l : Layout) (r : ℕ → Row) (i m : ℕ) → ((j : ℕ) → j < m → misfitOf l (r (i + j)) ≡ l .analogs) → fitRows l r i m ≡ says tt
@@ -52,13 +85,6 @@ all-fit l r i (suc m) h =
 
 pub fits-exactly : (l : Layout) (r : ℕ → Row) → (fitRows l r 0 (l .rows) ≡ says tt → AllFit l r) × (AllFit l r → fitRows l r 0 (l .rows) ≡ says tt)
 fits-exactly l r = (fit-all l r, λ h. all-fit l r 0 (l .rows) (λ j k. let q : 0 + j ≡ j = omega arith in rw q (h j k)))
-
--- an accepted file
-accepted-fine : (l : Layout) (s : List ℕ) → checkFile l s ≡ Yes → (isSized l ≡ true) × (fileFine l s ≡ says tt)
-unfolding checkFile
-accepted-fine l s e =
-    let t = then-told (must (isSized l) (refused 10 0 0)) (fileFine l s) tt (yes-told (must (isSized l) (refused 10 0 0) >> fileFine l s) e) in
-    (must-holds (isSized l) (refused 10 0 0) (t .0), t .1)
 
 -- DEMAND 3, when a change is refused: 16 where a sample does not fit, or else 17 where the output is shorter than the new file
 pub decided-exactly : (l : Layout) (s : List ℕ) (k : Kind) (room : ℕ) → checkFile l s ≡ Yes

@@ -1,30 +1,37 @@
--- The test vectors T1 to T12 of the rules as one list, on the definitions. Each is computed.
---     vectors      the list of them
+-- The test vectors T1 to T12 of the rules as one list, on the definitions. Each is computed; that no row is larger than T6's, and T7 and T8 on any day, are laws.
+--     vectors          the list of them
+--     largest          no binary row is larger than T6's
+--     same-second      the pre-trigger time within a second
 -- Assumes nothing.
 use mathlib.Core.Path.{_≡_, refl}
 use mathlib.Core.Bool.{Bool, true, false}
 use mathlib.Core.List.{List, [], _∷_, _++_}
-use Prim.Native.Nat.{ℕ, _+_, _-_, _^_, _≤_}
+use Prim.Native.Nat.{ℕ, _+_, _-_, _*_, _^_, _≤_}
 use native.Mathlib.Omega.{arith}
 use Prim.Native.String.{String}
-use lib.IntN.{ℤ, pos, negℤ}
+use lib.IntN.{ℤ, pos, negℤ, _+ℤ_, _*ℤ_, +ℤ-invr}
 use lib.ListN.{length, replicate}
 use Rattle.lists.specs.Quoted.{quoted}
 use Rattle.lists.specs.Tables.{tab}
 use Rattle.words.specs.Words.{wordOf, wordBytes}
 use Rattle.words.specs.Signed.{signedOf, unsignedOf}
-use Rattle.text.specs.Lines.{scanLine, scanLastLine}
+use Rattle.text.specs.Lines.{scanLine}
 use Rattle.text.specs.Fields.{fieldCount, afterFields, fieldAt}
 use Rattle.numerals.specs.Counts.{lengthIn, isDigit, numberOf, readCount}
 use Rattle.numerals.specs.Wholes.{signLength, hasMinus, withSign, signedNumber, readWhole}
-use Rattle.numerals.specs.Decimals.{decimalIn, decimal, plain}
-use Rattle.clock.specs.declared.Span.{Span}
+use Rattle.clock.specs.declared.Date.{Date}
+use Rattle.clock.specs.declared.DateField.{DateField}
 use Rattle.clock.specs.declared.DateField.the-variants as date
+use Rattle.clock.specs.declared.Time.{Time}
+use Rattle.clock.specs.declared.TimeField.{TimeField}
+use Rattle.clock.specs.declared.TimeField.the-variants as time
+use Rattle.clock.specs.declared.Span.{Span}
 use Rattle.clock.specs.Patterns.{fitsPlace, fits, digitsAt, within}
 use Rattle.clock.specs.Dates.{leapYear, shortMonth, monthDays, validDate, dateOf, readDate, daysOfYears, daysOfMonths, dayNumber}
-use Rattle.clock.specs.Times.{fractionOf, timeOf, secondOfDay}
+use Rattle.clock.specs.Times as times
+use Rattle.clock.specs.Times.{validTime, timeForm, fractionOf, timeOf, secondOfDay}
 use Rattle.clock.specs.Spans.{secondNumber, spanOf, preTrigger}
-use Rattle.lines.specs.Lines.{fault, dateLine}
+use Rattle.lines.specs.Lines.{fault, noDate, noTime, dateLine}
 use Rattle.model.specs.declared.Kind.{Kind}
 use Rattle.model.specs.declared.Kind.the-variants.{Ascii, Binary, Binary32}
 use Rattle.model.specs.declared.Layout.{Layout}
@@ -44,7 +51,6 @@ use Rattle.binaries.specs.Files.{rowRefusal, checkBinary, binaryRow}
 use Rattle.ascii.specs.Fields.{readTime, readSample, isStatus, timeIn, sampleIn, statusIn}
 use Rattle.ascii.specs.Rows as ascii
 use Rattle.ascii.specs.Rows.{fieldFine, checkFields, checkNumber, checkLine}
-use Rattle.plain.specs.Rows.{lineOf, textOf, lengthBy}
 use Rattle.texts.specs.Files as texts
 use Rattle.texts.specs.Files.{checkRow, isEnding, checkText, firstLine, afterRows, textRow}
 use Rattle.data.specs.declared.RowAnswer.{RowAnswer}
@@ -97,13 +103,35 @@ t4 =
 abbrev pub t5 : ℕ → List ℕ
 t5 i = 0x01 ∷ 0x00 ∷ 0x00 ∷ 0x00 ∷ 0x00 ∷ 0x00 ∷ 0x00 ∷ 0x00 ∷ 0x00 ∷ 0x00 ∷ wordBytes 2 (2 ^ i)
 
--- the pre-trigger time of four fields: first date and time, trigger's date and time
-abbrev pub preTriggerOf : String → String → String → String → Span
-preTriggerOf a s b t = preTrigger (dateOf (quoted a)) (timeOf (quoted s)) (dateOf (quoted b)) (timeOf (quoted t))
+-- the date and the time of day that a field says
+abbrev pub dateSaid : DateField → Date
+dateSaid (date.Is x) = x
+dateSaid date.Form = noDate
+dateSaid date.Range = noDate
 
--- T6's bound: no binary row is larger
+abbrev pub timeSaid : TimeField → Time
+timeSaid (time.Is x) = x
+timeSaid time.Form = noTime
+timeSaid time.Range = noTime
+
+abbrev pub on : String → Date
+on s = dateSaid (readDate (quoted s))
+
+abbrev pub at : String → Time
+at s = timeSaid (times.readTime (quoted s))
+
+-- seconds and nanoseconds
+abbrev pub span : ℤ → ℕ → Span
+span seconds nanoseconds = record { seconds = seconds; nanoseconds = nanoseconds }
+
+-- no binary row is larger than T6's
 pub largest : (a d rows : ℕ) → a ≤ 96 → d ≤ 256 → rowSize (layout a d rows Binary) ≤ 232
 largest a d rows p q = omega (arith, sizes (layout a d rows Binary))
+
+-- two times in the same second of a day are no seconds apart, whichever the day is
+pub same-second : (day : Date) (s t : Time) → secondOfDay s ≡ secondOfDay t → preTrigger day s day t ≡ spanOf (pos 0) (s .nanosecond) (t .nanosecond)
+unfolding preTrigger secondNumber
+same-second day s t same = rw (same, +ℤ-invr (dayNumber day *ℤ pos 86400 +ℤ pos (secondOfDay t)))
 
 pub vectors :
     -- T1: 27 bytes of text, and the two rows they show
@@ -123,24 +151,25 @@ pub vectors :
     × (checkFile (of-t1 Binary32) t3 ≡ Yes)
     × (showRow (of-t1 Binary32) t3 1 ≡ shows 0 (negℤ (pos 3) ∷ []) (false ∷ []))
     × (showRow (of-t1 Binary32) t3 2 ≡ shows 1000 (pos 300 ∷ []) (true ∷ [])))
-    -- T4: the binary row 3 that the standard's translation prints has that number and no padding, and shows this; its bytes are those of the row
+    -- T4: the binary row 3 that the standard's translation prints: its number is 3, its padding zero, it shows this, and the row is written as these bytes again
     × ((rowCheck (layout 6 6 3 Binary) 3 t4 ≡ 0)
-    × (binary.rowOf (layout 6 6 3 Binary) t4 ≡
-    row 334 (negℤ (pos 886) ∷ pos 1251 ∷ pos 87 ∷ pos 45 ∷ negℤ (pos 139) ∷ negℤ (pos 351) ∷ []) (false ∷ false ∷ false ∷ false ∷ false ∷ true ∷ []))
+    × (binary.rowOf (layout 6 6 3 Binary) t4
+    ≡ row 334 (negℤ (pos 886) ∷ pos 1251 ∷ pos 87 ∷ pos 45 ∷ negℤ (pos 139) ∷ negℤ (pos 351) ∷ []) (false ∷ false ∷ false ∷ false ∷ false ∷ true ∷ []))
     × (bytesOf (layout 6 6 3 Binary) 3 (binary.rowOf (layout 6 6 3 Binary) t4) ≡ t4))
     -- T5: 17 statuses have two words; the second's bit 0 is status 17, and each of the other 15 is padding, refused with 13
     × ((wordsOf 17 ≡ 2)
+    × (16 * wordsOf 17 ≡ 17 + 15)
     × (showRow (layout 0 17 1 Binary) (t5 0) 1 ≡ shows 0 [] (replicate 16 false ++ true ∷ []))
     × (tab (λ i. checkFile (layout 0 17 1 Binary) (t5 (i + 1))) 15 ≡ replicate 15 (No (refused 13 1 0))))
     -- T6: the largest binary row
     × ((rowSize (layout 96 256 1 Binary) ≡ 232)
     × ((a d rows : ℕ) → a ≤ 96 → d ≤ 256 → rowSize (layout a d rows Binary) ≤ 232))
-    -- T7: first and trigger on the same day
-    × (preTriggerOf "03/02/2024" "17:38:26.663700" "03/02/2024" "17:38:26.687500" ≡ record { seconds = pos 0; nanoseconds = 23_800_000 })
+    -- T7: trigger and first sample on the same day, whichever it is
+    × ((day : Date) → preTrigger day (at "17:38:26.663700") day (at "17:38:26.687500") ≡ span (pos 0) 23_800_000)
     -- T8: the two swapped
-    × (preTriggerOf "03/02/2024" "17:38:26.687500" "03/02/2024" "17:38:26.663700" ≡ record { seconds = negℤ (pos 1); nanoseconds = 976_200_000 })
-    -- T9: over a leap day
-    × (preTriggerOf "28/02/2012" "23:59:59.999999" "01/03/2012" "00:00:00.000000" ≡ record { seconds = pos 86_400; nanoseconds = 1_000 })
+    × ((day : Date) → preTrigger day (at "17:38:26.687500") day (at "17:38:26.663700") ≡ span (negℤ (pos 1)) 976_200_000)
+    -- T9: over the end of a February of 29 days
+    × (preTrigger (on "28/02/2012") (at "23:59:59.999999") (on "01/03/2012") (at "00:00:00.000000") ≡ span (pos 86_400) 1_000)
     -- T10: no such day: 6 at the date's field
     × ((readDate (quoted "29/02/1900") ≡ date.Range)
     × (dateLine (quoted "29/02/1900,00:00:00.000000") .fault ≡ fault 6 1))
@@ -153,17 +182,17 @@ unfolding checkFile showRow isSized hasRow fileFine rowAt checkText texts.checkR
     checkLine checkNumber checkFields fieldFine ascii.rowOf readTime readSample isStatus timeIn sampleIn statusIn lengthIn isDigit numberOf readCount signLength hasMinus withSign signedNumber readWhole fitsKind
     bytesNeeded needsBytes fitRows misfitOf misfit fileLength rowsLength lengthOf rowSize changed fileOf endMark bytesOf binary.bytesOf packed wordBytes wordOf signedOf unsignedOf
     checkBinary binaries.checkRows binaryRow binary.rowOf rowCheck rowRefusal
-    preTrigger spanOf secondNumber dayNumber daysOfYears daysOfMonths monthDays leapYear shortMonth secondOfDay dateOf timeOf fractionOf digitsAt readDate fits fitsPlace validDate within
+    preTrigger spanOf secondNumber dayNumber daysOfYears daysOfMonths monthDays leapYear shortMonth secondOfDay dateOf times.readTime timeForm validTime timeOf fractionOf digitsAt readDate fits fitsPlace validDate within
     dateLine readConfig readFront readHead nextLine
 vectors = (
   (refl, refl, refl, refl),
   (refl, refl, refl, refl, refl),
   (refl, refl, refl, refl, refl),
   (refl, refl, refl),
-  (refl, refl, refl),
+  (refl, refl, refl, refl),
   (refl, largest),
-  refl,
-  refl,
+  (λ day. same-second day (at "17:38:26.663700") (at "17:38:26.687500") refl),
+  (λ day. same-second day (at "17:38:26.687500") (at "17:38:26.663700") refl),
   refl,
   (refl, refl),
   refl,

@@ -67,12 +67,13 @@ abbrev pub checkedOf : Said Refusal ℕ → Checked
 checkedOf (says taken) = Takes taken
 checkedOf (refuses r) = No r
 
--- how many bytes a line that was found has, and how many with its CR LF
+-- how many bytes a line that was found has
 abbrev pub lineLength : Scanned → ℕ
 lineLength (Line len taken) = len
 lineLength Ends = 0
 lineLength Bad = 0
 
+-- how many it takes with its CR LF
 abbrev pub lineTaken : Scanned → ℕ
 lineTaken (Line len taken) = taken
 lineTaken Ends = 0

@@ -1,0 +1,9 @@
+-- What was read of a file.
+use Prim.Native.Nat.{ℕ, _≤_}
+use Rattle.list.specs.declared.Got.{Got}
+use Rattle.list.specs.declared.Got.the-variants.{Bytes, Failed}
+
+-- no more bytes were read than there was room for
+abbrev pub Within : ℕ → Got → Type 0
+Within n (Bytes k) = k ≤ n
+Within n Failed = Unit {0}

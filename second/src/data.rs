@@ -1,0 +1,354 @@
+//! Data rows of the three kinds: checked, shown and written.
+//! In memory a row is its time, A samples and D statuses; place 1 of a row is field 2.
+
+use crate::numbers;
+use crate::{no, yes, Answer};
+
+/// The most analog channels.
+pub const MOST_A: i64 = 96;
+
+/// The most status channels.
+pub const MOST_D: i64 = 256;
+
+/// The most rows.
+pub const MOST_ROWS: i64 = 1_000_000;
+
+/// The most bytes of a text row before its line end.
+const MOST_TEXT: usize = 1_880;
+
+/// The highest timestamp, any 32-bit number.
+const HIGHEST_TIME: i64 = 4_294_967_295;
+
+/// The mark at the end of a text file.
+pub const END_MARK: [u8; 3] = [0x1A, 0x0D, 0x0A];
+
+/// The kind of data file is one of ASCII, binary and binary32.
+#[derive(Debug, Clone, Copy, PartialEq, Eq)]
+pub enum Kind {
+    Ascii,
+    Binary,
+    Binary32,
+}
+
+impl Kind {
+    /// The kind of a number; another number is no such kind.
+    pub fn of(number: u32) -> Option<Kind> {
+        match number {
+            0 => Some(Kind::Ascii),
+            1 => Some(Kind::Binary),
+            2 => Some(Kind::Binary32),
+            _ => None,
+        }
+    }
+
+    /// The number of the kind.
+    pub fn number(self) -> u32 {
+        match self {
+            Kind::Ascii => 0,
+            Kind::Binary => 1,
+            Kind::Binary32 => 2,
+        }
+    }
+
+    /// The kind's word, spelled as in a listing.
+    pub fn word(self) -> &'static str {
+        match self {
+            Kind::Ascii => "ASCII",
+            Kind::Binary => "binary",
+            Kind::Binary32 => "binary32",
+        }
+    }
+
+    /// Bytes of a sample: binary 2, binary32 4; text has no such width, and no file of it is measured by one.
+    fn width(self) -> usize {
+        match self {
+            Kind::Binary => 2,
+            Kind::Ascii | Kind::Binary32 => 4,
+        }
+    }
+
+    /// Whether a sample lies from the lowest to the highest of the kind; ASCII has the range of binary32.
+    fn holds(self, sample: i64) -> bool {
+        match self {
+            Kind::Binary => (-32_768..=32_767).contains(&sample),
+            Kind::Ascii | Kind::Binary32 => (-2_147_483_648..=2_147_483_647).contains(&sample),
+        }
+    }
+}
+
+/// A layout is A, D, the number of rows and the kind.
+#[derive(Debug, Clone, Copy)]
+pub struct Layout {
+    pub a: usize,
+    pub d: usize,
+    pub rows: u32,
+    pub kind: Kind,
+}
+
+impl Layout {
+    /// A layout out of the sizes, or no such kind, is 10.
+    pub fn new(a: u32, d: u32, rows: u32, kind: u32) -> Result<Layout, Answer> {
+        let kind = Kind::of(kind).ok_or(no(10, 0, 0))?;
+        let (wide_a, wide_d) = (i64::from(a), i64::from(d));
+        let sizes =
+            wide_a <= MOST_A && wide_d <= MOST_D && wide_a + wide_d >= 1 && (1..=MOST_ROWS).contains(&i64::from(rows));
+        if !sizes {
+            return Err(no(10, 0, 0));
+        }
+        Ok(Layout { a: a as usize, d: d as usize, rows, kind })
+    }
+
+    /// Places of a row in memory: time, A samples, D statuses.
+    pub fn places(&self) -> usize {
+        1 + self.a + self.d
+    }
+
+    /// D / 16 rounded up status words.
+    fn words(&self) -> usize {
+        self.d.div_ceil(16)
+    }
+
+    /// Bytes of a row of the binary kinds.
+    pub fn row_size(&self) -> usize {
+        8 + self.a * self.kind.width() + 2 * self.words()
+    }
+
+    /// A row that is none of 1 to the number of rows is 15.
+    fn has_row(&self, n: u32) -> Result<(), Answer> {
+        if n < 1 || n > self.rows {
+            return Err(no(15, 0, 0));
+        }
+        Ok(())
+    }
+}
+
+/// The whole file in order, `each` called with every row after its own checks; the first refusal met is given.
+pub fn walk(layout: &Layout, data: &[u8], mut each: impl FnMut(u32, &[i64])) -> Result<(), Answer> {
+    let mut row = vec![0; layout.places()];
+    if layout.kind == Kind::Ascii {
+        let mut start = 0;
+        for n in 1..=layout.rows {
+            start = text_row(layout, data, start, n, &mut row)?;
+            each(n, &row);
+        }
+        return ending(layout, &data[start..]);
+    }
+    if data.len() as u64 != u64::from(layout.rows) * layout.row_size() as u64 {
+        return Err(no(11, 0, 0));
+    }
+    for (n, bytes) in (1..=layout.rows).zip(data.chunks_exact(layout.row_size())) {
+        binary_row(layout, bytes, n, &mut row)?;
+        each(n, &row);
+    }
+    Ok(())
+}
+
+/// After the last row comes nothing, or 1A hex, or 1A 0D 0A; else 11 at row rows + 1.
+fn ending(layout: &Layout, rest: &[u8]) -> Result<(), Answer> {
+    if rest.is_empty() || rest == [0x1A] || rest == END_MARK {
+        return Ok(());
+    }
+    Err(no(11, layout.rows + 1, 0))
+}
+
+/// Four bytes, unsigned, low byte first.
+fn four(bytes: &[u8]) -> u32 {
+    u32::from_le_bytes([bytes[0], bytes[1], bytes[2], bytes[3]])
+}
+
+/// Row number and timestamp, A samples in two's complement, then the status words: 12, then 13.
+fn binary_row(layout: &Layout, bytes: &[u8], n: u32, row: &mut [i64]) -> Result<(), Answer> {
+    if four(bytes) != n {
+        return Err(no(12, n, 1));
+    }
+    row[0] = i64::from(four(&bytes[4..]));
+    let (samples, statuses) = row[1..].split_at_mut(layout.a);
+    let width = layout.kind.width();
+    let (sample_bytes, words) = bytes[8..].split_at(layout.a * width);
+    for (sample, bytes) in samples.iter_mut().zip(sample_bytes.chunks_exact(width)) {
+        *sample = match *bytes {
+            [low, high] => i64::from(i16::from_le_bytes([low, high])),
+            _ => i64::from(four(bytes) as i32),
+        };
+    }
+    for (statuses, bytes) in statuses.chunks_mut(16).zip(words.chunks_exact(2)) {
+        let mut word = u16::from_le_bytes([bytes[0], bytes[1]]);
+        for status in statuses.iter_mut() {
+            *status = i64::from(word & 1);
+            word >>= 1;
+        }
+        if word != 0 {
+            return Err(no(13, n, 0));
+        }
+    }
+    Ok(())
+}
+
+/// Scans a text row: 11 for an early end, 14 for a bad byte or at the 1,881st byte if that is not CR.
+fn text_end(data: &[u8], start: usize, n: u32) -> Result<usize, Answer> {
+    let mut at = start;
+    loop {
+        match data.get(at) {
+            None => return Err(no(11, n, 0)),
+            Some(0x0D) if data.get(at + 1) == Some(&0x0A) => return Ok(at),
+            Some(32..=126) if at - start < MOST_TEXT => at += 1,
+            Some(_) => return Err(no(14, n, 0)),
+        }
+    }
+}
+
+/// A text row from byte `start`: scanned, its fields counted, then fields from the left; the byte after it.
+fn text_row(layout: &Layout, data: &[u8], start: usize, n: u32, row: &mut [i64]) -> Result<usize, Answer> {
+    let end = text_end(data, start, n)?;
+    let line = &data[start..end];
+    let commas = line.iter().filter(|&&byte| byte == b',').count();
+    if commas + 1 != 1 + layout.places() {
+        return Err(no(14, n, 0));
+    }
+    let mut fields = line.split(|&byte| byte == b',');
+    let number = numbers::count(fields.next().unwrap_or(&[]), 10).ok_or(no(14, n, 1))?;
+    if number != i64::from(n) {
+        return Err(no(12, n, 1));
+    }
+    for (place, bytes) in fields.enumerate() {
+        row[place] = text_place(layout, place, bytes).ok_or(no(14, n, place as u32 + 2))?;
+    }
+    Ok(end + 2)
+}
+
+/// One field after the number: timestamp, sample, or status of one character, 0 or 1.
+fn text_place(layout: &Layout, place: usize, bytes: &[u8]) -> Option<i64> {
+    if place == 0 {
+        numbers::count(bytes, 13).filter(|&time| time <= HIGHEST_TIME)
+    } else if place <= layout.a {
+        numbers::sample(bytes, 13).filter(|&sample| Kind::Ascii.holds(sample))
+    } else {
+        match bytes {
+            b"0" => Some(0),
+            b"1" => Some(1),
+            _ => None,
+        }
+    }
+}
+
+/// The first field from the left whose number does not fit the kind.
+pub fn misfit(layout: &Layout, row: &[i64]) -> Option<u32> {
+    let (time, rest) = (row[0], &row[1..layout.places()]);
+    if !(0..=HIGHEST_TIME).contains(&time) {
+        return Some(2);
+    }
+    let (samples, statuses) = rest.split_at(layout.a);
+    if let Some(place) = samples.iter().position(|&sample| !layout.kind.holds(sample)) {
+        return Some(3 + place as u32);
+    }
+    let place = statuses.iter().position(|&status| status != 0 && status != 1)?;
+    Some(3 + (layout.a + place) as u32)
+}
+
+/// Adds a row that fits, in its layout's kind, to `bytes`.
+pub fn put_row(layout: &Layout, n: u32, row: &[i64], bytes: &mut Vec<u8>) {
+    if layout.kind == Kind::Ascii {
+        return put_text(layout, n, row, bytes);
+    }
+    bytes.extend_from_slice(&n.to_le_bytes());
+    bytes.extend_from_slice(&(row[0] as u32).to_le_bytes());
+    let (samples, statuses) = row[1..layout.places()].split_at(layout.a);
+    for sample in samples {
+        bytes.extend_from_slice(&sample.to_le_bytes()[..layout.kind.width()]);
+    }
+    for statuses in statuses.chunks(16) {
+        let mut word = 0u16;
+        for (bit, &status) in statuses.iter().enumerate() {
+            word |= (status as u16) << bit;
+        }
+        bytes.extend_from_slice(&word.to_le_bytes());
+    }
+}
+
+/// The plain written form: no spaces, no plus, no needless zeros, zero as 0; the row ends with CR LF.
+fn put_text(layout: &Layout, n: u32, row: &[i64], bytes: &mut Vec<u8>) {
+    put_number(i64::from(n), bytes);
+    for &place in &row[..layout.places()] {
+        bytes.push(b',');
+        put_number(place, bytes);
+    }
+    bytes.extend_from_slice(&[0x0D, 0x0A]);
+}
+
+/// A number in its plain form.
+fn put_number(number: i64, bytes: &mut Vec<u8>) {
+    if number < 0 {
+        bytes.push(b'-');
+    }
+    let mut rest = number.unsigned_abs();
+    let start = bytes.len();
+    loop {
+        bytes.push(b'0' + (rest % 10) as u8);
+        rest /= 10;
+        if rest == 0 {
+            break;
+        }
+    }
+    bytes[start..].reverse();
+}
+
+/// Checks a data file against its layout: 10, then the file.
+pub fn check(a: u32, d: u32, rows: u32, kind: u32, data: &[u8]) -> Answer {
+    let checked = Layout::new(a, d, rows, kind).and_then(|layout| walk(&layout, data, |_, _| ()));
+    match checked {
+        Ok(()) => yes(0),
+        Err(answer) => answer,
+    }
+}
+
+/// Shows row n: 10, 15, then the file, and 17 last of all.
+pub fn row(a: u32, d: u32, rows: u32, kind: u32, data: &[u8], n: u32, shown: &mut [i64]) -> Answer {
+    match find_row(a, d, rows, kind, data, n) {
+        Err(answer) => answer,
+        Ok(found) if shown.len() < found.len() => no(17, 0, 0),
+        Ok(found) => {
+            shown[..found.len()].copy_from_slice(&found);
+            yes(0)
+        }
+    }
+}
+
+/// Row n of a file that passes its check.
+fn find_row(a: u32, d: u32, rows: u32, kind: u32, data: &[u8], n: u32) -> Result<Vec<i64>, Answer> {
+    let layout = Layout::new(a, d, rows, kind)?;
+    layout.has_row(n)?;
+    let mut found = Vec::new();
+    walk(&layout, data, |number, row| {
+        if number == n {
+            found.extend_from_slice(row);
+        }
+    })?;
+    Ok(found)
+}
+
+/// Writing one row: 10, 15, 16, 17; no end mark is added.
+pub fn write_row(a: u32, d: u32, rows: u32, kind: u32, n: u32, row: &[i64], out: &mut [u8]) -> Answer {
+    match row_bytes(a, d, rows, kind, n, row) {
+        Err(answer) => answer,
+        Ok(bytes) if out.len() < bytes.len() => no(17, 0, 0),
+        Ok(bytes) => {
+            out[..bytes.len()].copy_from_slice(&bytes);
+            yes(bytes.len() as u32)
+        }
+    }
+}
+
+/// The bytes of row n: 10 for the layout or a row with too few places, then 15, then 16 at the first field that does not fit.
+fn row_bytes(a: u32, d: u32, rows: u32, kind: u32, n: u32, row: &[i64]) -> Result<Vec<u8>, Answer> {
+    let layout = Layout::new(a, d, rows, kind)?;
+    if row.len() < layout.places() {
+        return Err(no(10, 0, 0));
+    }
+    layout.has_row(n)?;
+    if let Some(field) = misfit(&layout, row) {
+        return Err(no(16, n, field));
+    }
+    let mut bytes = Vec::new();
+    put_row(&layout, n, row, &mut bytes);
+    Ok(bytes)
+}

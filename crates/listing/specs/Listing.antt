@@ -4,7 +4,7 @@ use mathlib.Core.Bool.{Bool}
 use mathlib.Core.List.{List, _∷_, _++_}
 use Prim.Native.Nat.{ℕ, _+_, _*_}
 use lib.Dec.{leb}
-use lib.ListN.{length, take}
+use lib.ListN.{length, take, drop}
 use Rattle.lists.specs.Choice.{if_then_else_}
 use Rattle.lists.specs.Said.{Said, says, refuses, _>>_, must}
 use Rattle.lists.specs.Tables.{cat}
@@ -21,10 +21,11 @@ use Rattle.model.specs.Rows.{sampleAt, sampleValue, statusAt, statusValue}
 use Rattle.data.specs.Files.{checkFile, rowAt}
 use Rattle.config.specs.Config.{readConfig, layoutOf}
 
--- `text` was put after the first n bytes of `old`: so `new` begins, up to r
+-- `text` was put after the first n bytes of `old`: so `new` begins, up to r; what follows stays
 pub record Put (old : List ℕ) (n : ℕ) (text new : List ℕ) (r : ℕ) : Type 0 where
   pub end : r ≡ n + length text
   pub bytes : take r new ≡ take n old ++ text
+  pub rest : drop r new ≡ drop r old
 
 -- the word of a kind
 unfoldable pub kindWord : Kind → List ℕ
@@ -105,3 +106,7 @@ unfoldable pub listing : List ℕ → List ℕ → List ℕ
 listing cfg dat = listed (do
   accepted (quoted "no cfg ") (readConfig cfg .answer)
   says (recording (layoutOf (readConfig cfg .config)) dat))
+
+-- what the room holds at the end: the listing, and then what stood there
+unfoldable pub listedTo : List ℕ → List ℕ → List ℕ → List ℕ
+listedTo cfg dat out = listing cfg dat ++ drop (length (listing cfg dat)) out

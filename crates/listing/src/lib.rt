@@ -1,5 +1,5 @@
 // The listing of a recording: the text that says what a configuration and a data file hold, or why one of them is refused.
-// put_listing answers for any two files, and fills its room with exactly the text that the definition `listing` gives. The data file is checked once, and each row is read from its place.
+// put_listing answers for any two files, and puts exactly the text that the definition `listing` gives in front of its room; what stands past it stays. The data file is checked once, and each row is read from its place.
 use config::Config;
 use model::AnalogNo;
 use model::Answer;
@@ -13,7 +13,7 @@ use model::StatusNo;
 ghost use mathlib.Core.Path.{_≡_};
 ghost use mathlib.Core.List.{_∷_};
 ghost use Prim.Native.Nat.{_+_, _*_, _≤_};
-ghost use lib.ListN.{length, take};
+ghost use lib.ListN.{length};
 ghost use Rattle.lists.specs.Said.{says};
 ghost use Rattle.numerals.specs.Decimals.{decimal, plain};
 ghost use Rattle.model.specs.Layouts.{Sized};
@@ -21,7 +21,7 @@ ghost use Rattle.model.specs.Rows.{sampleAt, sampleValue, statusAt, statusValue
 ghost use Rattle.data.specs.Files.{fileFine};
 ghost use Rattle.walks.specs.Walks.{rowHere, HasRow};
 ghost use Rattle.config.specs.Config.{layoutOf};
-ghost use Rattle.listing.specs.Listing.{Put, kindWord, named, headLine, samplesText, statusText, statusesText, rowLine, lineMost, rowsText, refusalLine, recording, listing};
+ghost use Rattle.listing.specs.Listing.{Put, kindWord, named, headLine, samplesText, statusText, statusesText, rowLine, lineMost, rowsText, refusalLine, recording, listing, listedTo};
 
 // Room for the text of any two files.
 pub const ROOM: usize = 1048640;
@@ -252,9 +252,9 @@ fn layout_of(config: Config) -> Layout
     }
 }
 
-// The listing of a recording, and how many bytes it has.
+// The listing of a recording is put, and how many bytes it has is told.
 pub fn put_listing(cfg: &[u8], dat: &[u8], out: &mut [u8; ROOM]) -> usize
-    ensures { λ r. ⌜ (r ≡ length (listing (now (cfg .entry)) (now (dat .entry)))) × (take r (now (out .exit)) ≡ listing (now (cfg .entry)) (now (dat .entry))) × (r ≤ length (now (out .exit))) ⌝ }
+    ensures { λ r. ⌜ (r ≡ length (listing (now (cfg .entry)) (now (dat .entry)))) × (now (out .exit) ≡ listedTo (now (cfg .entry)) (now (dat .entry)) (now (out .entry))) × (r ≤ length (now (out .exit))) ⌝ }
 {
     let found = config::read_config(cfg);
     let answer = found.answer;

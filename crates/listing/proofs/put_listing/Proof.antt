@@ -6,7 +6,7 @@ use Rattle.model.proofs.LayoutLaws.{sized}
 use Rattle.config.specs.declared.ConfigAnswer.{ConfigAnswer}
 use Rattle.config.specs.Config.{readConfig, layoutOf}
 use Rattle.config.proofs.SizedLaws.{accepted-sized}
-use Rattle.listing.specs.Listing.{listing}
+use Rattle.listing.specs.Listing.{listing, listedTo}
 use Rattle.listing.proofs.Laws.{put-all-of}
 use Rattle.listing.proofs.put_listing.Statement.{statement}
 use Rattle.listing.proofs.put_listing.Tie as tie
@@ -42,13 +42,13 @@ put-refusal-requires : tie.Need-put-refusal-requires
 put-refusal-requires c κs = search needs
 
 returns : tie.Need-returns
-unfolding listing
+unfolding listing listedTo
 returns c =
     let g = given (c .before) in
     rw (g .1, ← g .0) (put-all-of (c .put-data .ensures))
 
 returns-2 : tie.Need-returns-2
-unfolding listing
+unfolding listing listedTo
 returns-2 c =
     let e : readConfig (c .before .before .before .before .before .before .before .before .before .before .args .cfg .now) .answer ≡ No (c .before .before .before .before .answer .given .0 .0) = ap (λ (a : ConfigAnswer). a .answer) (sym (c .before .before .before .before .before .before .before .read-config .ensures)) ∙ c .before .before .before .before .answer .given .1 in
     rw e (put-all-of (c .put-refusal .ensures))

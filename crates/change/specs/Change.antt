@@ -2,7 +2,7 @@
 use mathlib.Core.Path.{_≡_}
 use mathlib.Core.Bool.{not}
 use mathlib.Core.List.{List}
-use Prim.Native.Nat.{ℕ, zero, suc, _+_, _*_, _<_, _≤_}
+use Prim.Native.Nat.{ℕ, zero, suc, _+_, _*_, _^_, _<_, _≤_}
 use lib.Dec.{eqb, leb}
 use lib.IntN.{ℤ}
 use lib.ListN.{length}
@@ -18,6 +18,7 @@ use Rattle.model.specs.Refusals.{refused}
 use Rattle.binary.specs.Rows.{rowSize}
 use Rattle.plain.specs.Rows.{lengthBy}
 use Rattle.data.specs.declared.Written.{Written}
+use Rattle.data.specs.declared.Written.the-variants as wrote
 use Rattle.data.specs.Files.{byKind, fileFine, rowAt, bytesOf, lengthOf, misfitOf, written, put, endMark, fileOf}
 use Rattle.change.specs.declared.Needed.{Needed}
 use Rattle.change.specs.declared.Needed.the-variants.{Bytes, No}
@@ -125,6 +126,16 @@ settleAll l (weighed.No r) = refuses r
 abbrev pub Short : Weighed → Type 0
 Short (weighed.Whole t) = t .length ≤ 2048 * 1000000
 Short (weighed.No r) = Unit {0}
+
+-- an answer's bytes are counted in 32 bits
+abbrev pub FewNeeded : Needed → Type 0
+FewNeeded (Bytes m) = m < 2 ^ 32
+FewNeeded (No r) = Unit {0}
+
+-- the same of bytes that were written
+abbrev pub FewWritten : Written → Type 0
+FewWritten (wrote.Bytes m) = m < 2 ^ 32
+FewWritten (wrote.No r) = Unit {0}
 
 -- what is needed of a sized layout
 unfoldable pub decided : Layout → List ℕ → Kind → Said Refusal ℕ

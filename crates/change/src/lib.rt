@@ -15,7 +15,7 @@ ghost use Rattle.lists.specs.Tables.{cat};
 ghost use Rattle.model.specs.Layouts.{Sized};
 ghost use Rattle.data.specs.Files.{rowAt, bytesOf, lengthOf, misfitOf, endMark};
 ghost use Rattle.walks.specs.Walks.{HasRow, rowHere, startFine, walkFine};
-ghost use Rattle.change.specs.Change.{inKind, fileLength, rowsLength, neededOf, bytesNeeded, changeAnswer, changed, changedTo, newLength, noTally, tallied, weigh, tallyOf, weighedOf, Short, settleAll, decided, rowsBytes, AllFit};
+ghost use Rattle.change.specs.Change.{inKind, fileLength, rowsLength, neededOf, bytesNeeded, changeAnswer, changed, changedTo, newLength, noTally, tallied, weigh, tallyOf, weighedOf, Short, FewNeeded, FewWritten, settleAll, decided, rowsBytes, AllFit};
 
 // How many bytes a change needs, or why there is none.
 pub enum Needed {
@@ -155,7 +155,7 @@ fn mark_length(layout: Layout) -> usize
 // What a tally says of the new file.
 fn settle(new: Layout, weighed: Weighed) -> Needed
     requires { ⌜ Short weighed ⌝ }
-    ensures { λ r. ⌜ r ≡ neededOf (settleAll new weighed) ⌝ }
+    ensures { λ r. ⌜ (r ≡ neededOf (settleAll new weighed)) × (FewNeeded r) ⌝ }
 {
     match weighed {
         Weighed::Whole(tally) => {
@@ -171,7 +171,7 @@ fn settle(new: Layout, weighed: Weighed) -> Needed
 // How many bytes the new file takes, or why there is none.
 fn decide(layout: Layout, data: &[u8], kind: Kind) -> Needed
     requires { ⌜ Sized layout ⌝ }
-    ensures { λ r. ⌜ r ≡ neededOf (decided layout (now («data» .entry)) kind) ⌝ }
+    ensures { λ r. ⌜ (r ≡ neededOf (decided layout (now («data» .entry)) kind)) × (FewNeeded r) ⌝ }
 {
     match walks::start_fine(layout, data) {
         Answer::Yes => settle(
@@ -184,7 +184,7 @@ fn decide(layout: Layout, data: &[u8], kind: Kind) -> Needed
 
 // How many bytes a change of kind needs, or the first refusal.
 pub fn bytes_needed(layout: Layout, data: &[u8], kind: Kind) -> Needed
-    ensures { λ r. ⌜ r ≡ bytesNeeded layout (now («data» .entry)) kind ⌝ }
+    ensures { λ r. ⌜ (r ≡ bytesNeeded layout (now («data» .entry)) kind) × (FewNeeded r) ⌝ }
 {
     if !layout.is_sized() {
         return Needed::No(model::refused(10, 0, 0));
@@ -194,7 +194,7 @@ pub fn bytes_needed(layout: Layout, data: &[u8], kind: Kind) -> Needed
 
 // How many bytes the change takes, or why it is not made where there is room for so many.
 fn may_change(layout: Layout, data: &[u8], kind: Kind, room: usize) -> Written
-    ensures { λ r. ⌜ r ≡ changeAnswer layout (now («data» .entry)) kind room ⌝ }
+    ensures { λ r. ⌜ (r ≡ changeAnswer layout (now («data» .entry)) kind room) × (FewWritten r) ⌝ }
 {
     match bytes_needed(layout, data, kind) {
         Needed::Bytes(size) => {
@@ -261,7 +261,7 @@ fn put_file(layout: Layout, kind: Kind, data: &[u8], d: &mut [u8])
 
 // The file in another kind is written at the front of `out`, or nothing is.
 pub fn change(layout: Layout, data: &[u8], kind: Kind, out: &mut [u8]) -> Written
-    ensures { λ r. ⌜ (r ≡ changeAnswer layout (now («data» .entry)) kind (length (now (out .entry)))) × (now (out .exit) ≡ changedTo layout (now («data» .entry)) kind (now (out .entry))) ⌝ }
+    ensures { λ r. ⌜ (r ≡ changeAnswer layout (now («data» .entry)) kind (length (now (out .entry)))) × (now (out .exit) ≡ changedTo layout (now («data» .entry)) kind (now (out .entry))) × (FewWritten r) ⌝ }
 {
     let room = out.len();
     let answer = may_change(layout, data, kind, room);

@@ -27,7 +27,7 @@ pub enum Written {
 }
 
 // Whether there is a row n.
-fn has_row(layout: Layout, n: u32) -> bool
+pub fn has_row(layout: Layout, n: u32) -> bool
     ensures { λ r. ⌜ r ≡ hasRow layout n ⌝ }
 {
     if n < 1 {

@@ -1,9 +1,9 @@
 -- `change` meets its contract: what the answer says is written at the front, or nothing is.
 use Rattle.change.proofs.WriteLaws.{Ready, ready}
-use Rattle.change.specs.Change.{changedTo}
+use Rattle.change.specs.Change.{changedTo, FewWritten}
 use lib.Seq.{length-take-le}
 use lib.ListN.{length, take}
-use mathlib.Core.Path.{_≡_, sym, _∙_}
+use mathlib.Core.Path.{_≡_, sym, _∙_, subst}
 use borrow.Author.Needs.{needs}
 use Rattle.change.proofs.change.Statement.{statement}
 use Rattle.change.proofs.change.Tie as tie
@@ -18,7 +18,7 @@ enum-known-answer c = search needs
 told : (c : tie.After-answer) → Ready (c .before .before .before .before .before .args .layout) (c .before .before .before .before .before .args .«data» .now) (c .before .before .before .before .before .args .kind) (length (c .before .before .before .before .before .args .out .now)) (c .answer .given .0 .0)
 told c =
     let a = c .before .before .before .before .before .args in
-    ready (a .layout) (a .«data» .now) (a .kind) (length (a .out .now)) (c .answer .given .0 .0) (sym (c .before .before .may-change .ensures) ∙ c .answer .given .1)
+    ready (a .layout) (a .«data» .now) (a .kind) (length (a .out .now)) (c .answer .given .0 .0) (sym (c .before .before .may-change .ensures .0) ∙ c .answer .given .1)
 
 -- as many bytes are lent
 front : (c : tie.After-answer) → length (take (c .answer .given .0 .0) (c .before .before .before .before .before .args .out .now)) ≡ c .answer .given .0 .0
@@ -44,14 +44,14 @@ same-length c = search needs
 returns : tie.Need-returns
 unfolding changedTo
 returns c =
-    let e = sym (c .before .before .before .before .before .answer .given .1) ∙ c .before .before .before .before .before .before .before .may-change .ensures in
-    (e, rw (c .before .before .put-file .ensures, ← e))
+    let e = sym (c .before .before .before .before .before .answer .given .1) ∙ c .before .before .before .before .before .before .before .may-change .ensures .0 in
+    (e, rw (c .before .before .put-file .ensures, ← e), subst FewWritten (c .before .before .before .before .before .answer .given .1) (c .before .before .before .before .before .before .before .may-change .ensures .1))
 
 returns-2 : tie.Need-returns-2
 unfolding changedTo
 returns-2 c =
-    let e = c .before .before .may-change .ensures in
-    (e, rw (← e, c .enum-told .given .1))
+    let e = c .before .before .may-change .ensures .0 in
+    (e, rw (← e, c .enum-told .given .1), c .before .before .may-change .ensures .1)
 
 pub change-spec : {M : Type 1} → statement M
 change-spec =

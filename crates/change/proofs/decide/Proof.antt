@@ -36,12 +36,12 @@ enum-known-refusal c = search needs
 returns : tie.Need-returns
 returns c =
     let a = c .before .before .before .before .before .before .before .before .args in
-    rw (c .settle .ensures, c .before .weigh-rows .ensures .0, c .before .before .before .in-kind .ensures, decided-walk (a .layout) (a .«data» .now) (a .kind), walked (c .before .before .before .before))
+    (rw (c .settle .ensures .0, c .before .weigh-rows .ensures .0, c .before .before .before .in-kind .ensures, decided-walk (a .layout) (a .«data» .now) (a .kind), walked (c .before .before .before .before)), c .settle .ensures .1)
 
 returns-2 : tie.Need-returns-2
 returns-2 c =
     let a = c .before .before .before .before .before .args in
-    rw (decided-walk (a .layout) (a .«data» .now) (a .kind), no-told (startFine (a .layout) (a .«data» .now)) (c .before .refusal .given .0 .0) (sym (c .before .before .before .start-fine .ensures) ∙ c .before .refusal .given .1))
+    (rw (decided-walk (a .layout) (a .«data» .now) (a .kind), no-told (startFine (a .layout) (a .«data» .now)) (c .before .refusal .given .0 .0) (sym (c .before .before .before .start-fine .ensures) ∙ c .before .refusal .given .1)), tt)
 
 pub decide-spec : {M : Type 1} → statement M
 decide-spec =

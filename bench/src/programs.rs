@@ -1,0 +1,55 @@
+//! The three programs behind one set of calls, each reached through pointers, so that none is built into the loop
+//! around it.
+
+use bench::library;
+use bench::tuned::{self, Answer};
+
+/// The calls that are measured.
+pub struct Program {
+    pub name: &'static str,
+    pub config: fn(&[u8], &mut [i64]) -> Answer,
+    pub check: fn(u32, u32, u32, u32, &[u8]) -> Answer,
+    pub row: fn(u32, u32, u32, u32, &[u8], u32, &mut [i64]) -> Answer,
+    pub write_row: fn(u32, u32, u32, u32, u32, &[i64], &mut [u8]) -> Answer,
+    pub change: fn(u32, u32, u32, u32, &[u8], u32, &mut [u8]) -> Answer,
+}
+
+/// How many programs there are.
+pub const COUNT: usize = 3;
+
+/// The places of the programs in every list of figures.
+pub const LIBRARY: usize = 0;
+pub const SECOND: usize = 1;
+pub const TUNED: usize = 2;
+
+pub const PROGRAMS: [Program; COUNT] = [
+    Program {
+        name: "library",
+        config: library::config,
+        check: library::check,
+        row: library::row,
+        write_row: library::write_row,
+        change: library::change,
+    },
+    Program {
+        name: "second",
+        config: |cfg, shown| plain(second::config(cfg, shown)),
+        check: |a, d, rows, kind, data| plain(second::check(a, d, rows, kind, data)),
+        row: |a, d, rows, kind, data, n, shown| plain(second::row(a, d, rows, kind, data, n, shown)),
+        write_row: |a, d, rows, kind, n, row, out| plain(second::write_row(a, d, rows, kind, n, row, out)),
+        change: |a, d, rows, kind, data, new, out| plain(second::change(a, d, rows, kind, data, new, out)),
+    },
+    Program {
+        name: "tuned",
+        config: tuned::config,
+        check: tuned::check,
+        row: tuned::row,
+        write_row: tuned::write_row,
+        change: tuned::change,
+    },
+];
+
+/// The second program's answer in the library's form.
+fn plain(answer: second::Answer) -> Answer {
+    Answer { number: answer.number, at: answer.at, field: answer.field, length: answer.length }
+}

@@ -1,0 +1,124 @@
+//! The recordings that are measured: the same ones in every run.
+
+use bench::tuned;
+
+/// Rows kept in memory as a source for writing.
+const KEPT_ROWS: u32 = 1_000;
+
+/// One layout's configuration, its data file in all three kinds, and some of its rows.
+pub struct Recording {
+    pub a: u32,
+    pub d: u32,
+    pub rows: u32,
+    /// Rows asked for; more than `rows` where memory is short.
+    pub wanted_rows: u32,
+    pub cfg: Vec<u8>,
+    /// By the kind's number: ASCII, binary, binary32.
+    pub files: [Vec<u8>; 3],
+    pub kept: Vec<Vec<i64>>,
+    /// The rows that are shown.
+    pub shown: Vec<u32>,
+}
+
+/// A generator of numbers (xorshift64*).
+struct Chance(u64);
+
+impl Chance {
+    fn next(&mut self) -> u64 {
+        self.0 ^= self.0 >> 12;
+        self.0 ^= self.0 << 25;
+        self.0 ^= self.0 >> 27;
+        self.0.wrapping_mul(0x2545_F491_4F6C_DD1D) >> 16
+    }
+}
+
+/// The time of row n, rising.
+pub fn time(n: u32) -> i64 {
+    i64::from(n) * 208
+}
+
+/// Bytes of a file of each kind, the text as long as it can get with samples of 16 bits.
+fn most_bytes(a: u32, d: u32, rows: u32) -> [u64; 3] {
+    let [a, d, rows] = [a, d, rows].map(u64::from);
+    let words = 2 * d.div_ceil(16);
+    [rows * (7 + 11 + 7 * a + 2 * d + 2) + 3, rows * (8 + 2 * a + words), rows * (8 + 4 * a + words)]
+}
+
+/// The most rows, by halving, for which three files and room for the longest of them once more fit into `memory` bytes.
+fn rows_that_fit(a: u32, d: u32, wanted: u32, memory: u64) -> u32 {
+    let mut rows = wanted;
+    loop {
+        let [text, binary, binary32] = most_bytes(a, d, rows);
+        if 2 * text + binary + binary32 <= memory || rows <= 1_000 {
+            return rows;
+        }
+        rows /= 2;
+    }
+}
+
+impl Recording {
+    /// Room for any file of this layout and number of rows.
+    pub fn most_bytes(&self) -> usize {
+        most_bytes(self.a, self.d, self.rows).into_iter().max().unwrap_or(0) as usize
+    }
+
+    /// Makes a recording, of fewer rows where `memory` bytes do not hold it. All rows are to be shown where there are
+    /// at most `most_shown`; else the first, the middle and the last.
+    pub fn new(a: u32, d: u32, wanted_rows: u32, memory: u64, most_shown: u32) -> Recording {
+        let rows = rows_that_fit(a, d, wanted_rows, memory);
+        let shown = if rows <= most_shown { (1..=rows).collect() } else { vec![1, rows.div_ceil(2), rows] };
+        let mut files = most_bytes(a, d, rows).map(|bytes| vec![0xEE; bytes as usize]);
+        let mut ends = [0; 3];
+        let mut kept = Vec::new();
+        let mut chance = Chance(0x5EED_0000 + u64::from(a) * 1_000 + u64::from(d));
+        let mut row = vec![0; (1 + a + d) as usize];
+        for n in 1..=rows {
+            fill_row(&mut chance, n, a as usize, &mut row);
+            for (kind, (file, end)) in (0..).zip(files.iter_mut().zip(&mut ends)) {
+                *end += written(tuned::write_row(a, d, rows, kind, n, &row, &mut file[*end..]));
+            }
+            if n <= KEPT_ROWS {
+                kept.push(row.clone());
+            }
+        }
+        files[0][ends[0]..ends[0] + 3].copy_from_slice(&[0x1A, 0x0D, 0x0A]);
+        ends[0] += 3;
+        for (file, end) in files.iter_mut().zip(ends) {
+            file.truncate(end);
+        }
+        Recording { a, d, rows, wanted_rows, cfg: configuration(a, d, rows), files, kept, shown }
+    }
+}
+
+/// Samples of 16 bits in sizes that vary, statuses of any bit.
+fn fill_row(chance: &mut Chance, n: u32, a: usize, row: &mut [i64]) {
+    row[0] = time(n);
+    for place in &mut row[1..1 + a] {
+        let word = chance.next();
+        *place = i64::from((word as i16) >> (word >> 16 & 7));
+    }
+    for place in &mut row[1 + a..] {
+        *place = (chance.next() >> 7 & 1) as i64;
+    }
+}
+
+fn written(answer: tuned::Answer) -> usize {
+    assert_eq!(answer.number, 0, "a row made to fit was refused");
+    answer.length as usize
+}
+
+fn configuration(a: u32, d: u32, rows: u32) -> Vec<u8> {
+    let mut lines = vec!["Substation North,Relay 7,2013".to_string(), format!("{},{a}A,{d}D", a + d)];
+    for index in 1..=a {
+        let scale = 0.012_207 * f64::from(index);
+        lines.push(format!("{index},Current {index},A,Line {index},A,{scale:.6},0,0.5,-32767,32767,400.0,1.0,S"));
+    }
+    for index in 1..=d {
+        lines.push(format!("{index},Trip {index},,Breaker {index},{}", index % 2));
+    }
+    for line in ["50.0", "1", &format!("4800.0,{rows}"), "03/02/2024,09:15:00.000000", "03/02/2024,09:15:00.001000"] {
+        lines.push(line.to_string());
+    }
+    lines.extend(["BINARY", "1.0", "+1h00,+1h00", "0,3", ""].map(str::to_string));
+    lines.join("\r\n").into_bytes()
+}

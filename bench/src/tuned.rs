@@ -1,0 +1,166 @@
+//! The jobs of the library, written for speed: one walk over the file for a check, two for a change (all its tests come
+//! before its first byte), nothing allocated, fixed-width loads. Every rule is tested, and refusals come in the order
+//! of the rules.
+
+mod binary;
+mod change;
+mod config;
+mod numbers;
+mod plain;
+mod text;
+
+pub use change::{change, length};
+pub use config::config;
+
+/// An answer: number 0 is "yes"; a "no" has its number and place, and length zero.
+#[repr(C)]
+#[derive(Debug, Clone, Copy, PartialEq, Eq)]
+pub struct Answer {
+    pub number: u32,
+    pub at: u32,
+    pub field: u32,
+    pub length: u32,
+}
+
+/// A "no" with its place. A refusal ends the job, so the compiler may keep it out of the way.
+#[cold]
+fn no(number: u32, at: u32, field: u32) -> Answer {
+    Answer { number, at, field, length: 0 }
+}
+
+fn yes(length: usize) -> Answer {
+    Answer { number: 0, at: 0, field: 0, length: length as u32 }
+}
+
+fn answer(result: Result<usize, Answer>) -> Answer {
+    match result {
+        Ok(length) => yes(length),
+        Err(refusal) => refusal,
+    }
+}
+
+/// The kind of data file.
+#[derive(Debug, Clone, Copy, PartialEq, Eq)]
+enum Kind {
+    Text,
+    Binary,
+    Binary32,
+}
+
+/// A layout within the sizes.
+#[derive(Debug, Clone, Copy)]
+struct Layout {
+    a: usize,
+    d: usize,
+    rows: u32,
+    kind: Kind,
+}
+
+impl Layout {
+    /// A layout out of the sizes, or no such kind, is 10.
+    fn new(a: u32, d: u32, rows: u32, kind: u32) -> Result<Layout, Answer> {
+        let sized = a <= 96 && d <= 256 && a + d >= 1 && (1..=1_000_000).contains(&rows);
+        let kind = match kind {
+            0 if sized => Kind::Text,
+            1 if sized => Kind::Binary,
+            2 if sized => Kind::Binary32,
+            _ => return Err(no(10, 0, 0)),
+        };
+        Ok(Layout { a: a as usize, d: d as usize, rows, kind })
+    }
+
+    /// Places of a row in memory: time, samples, statuses.
+    fn places(&self) -> usize {
+        1 + self.a + self.d
+    }
+
+    /// A row that the layout does not have is 15.
+    fn has_row(&self, n: u32) -> Result<(), Answer> {
+        if n == 0 || n > self.rows {
+            return Err(no(15, 0, 0));
+        }
+        Ok(())
+    }
+}
+
+/// Checks a data file: 10, then the file.
+pub fn check(a: u32, d: u32, rows: u32, kind: u32, data: &[u8]) -> Answer {
+    answer(Layout::new(a, d, rows, kind).and_then(|layout| check_file(&layout, data)))
+}
+
+fn check_file(layout: &Layout, data: &[u8]) -> Result<usize, Answer> {
+    match layout.kind {
+        Kind::Text => text::walk(layout, data, &mut text::Ignored).map(|_| 0),
+        Kind::Binary => binary::check::<2>(layout, data).map(|_| 0),
+        Kind::Binary32 => binary::check::<4>(layout, data).map(|_| 0),
+    }
+}
+
+/// Shows row n: 10, 15, the whole file, 17.
+pub fn row(a: u32, d: u32, rows: u32, kind: u32, data: &[u8], n: u32, shown: &mut [i64]) -> Answer {
+    answer(show_row(a, d, rows, kind, data, n, shown))
+}
+
+fn show_row(a: u32, d: u32, rows: u32, kind: u32, data: &[u8], n: u32, shown: &mut [i64]) -> Result<usize, Answer> {
+    let layout = Layout::new(a, d, rows, kind)?;
+    layout.has_row(n)?;
+    let start = match layout.kind {
+        Kind::Text => text::find(&layout, data, n)?,
+        Kind::Binary => binary::find::<2>(&layout, data, n)?,
+        Kind::Binary32 => binary::find::<4>(&layout, data, n)?,
+    };
+    let Some(shown) = shown.get_mut(..layout.places()) else { return Err(no(17, 0, 0)) };
+    match layout.kind {
+        Kind::Text => text::show(&layout, data, start, n, shown),
+        Kind::Binary => binary::show::<2>(&layout, &data[start..], shown),
+        Kind::Binary32 => binary::show::<4>(&layout, &data[start..], shown),
+    }
+    Ok(0)
+}
+
+/// Writes row n: 10, 15, 16, 17; no end mark is added.
+pub fn write_row(a: u32, d: u32, rows: u32, kind: u32, n: u32, row: &[i64], out: &mut [u8]) -> Answer {
+    answer(put_row(a, d, rows, kind, n, row, out))
+}
+
+fn put_row(a: u32, d: u32, rows: u32, kind: u32, n: u32, row: &[i64], out: &mut [u8]) -> Result<usize, Answer> {
+    let layout = Layout::new(a, d, rows, kind)?;
+    let Some(row) = row.get(..layout.places()) else { return Err(no(10, 0, 0)) };
+    layout.has_row(n)?;
+    match layout.kind {
+        Kind::Text => plain::put_row(&layout, n, row, out),
+        Kind::Binary => binary::put_row::<2>(&layout, n, row, out),
+        Kind::Binary32 => binary::put_row::<4>(&layout, n, row, out),
+    }
+}
+
+/// The first place of a row that does not fit a kind of samples of `bits` bits, as 16 at row n. The tests are gathered
+/// by "or" without a branch; only a row that fails is looked through.
+fn fits(layout: &Layout, n: u32, row: &[i64], bits: u32) -> Result<(), Answer> {
+    let (samples, statuses) = row[1..].split_at(layout.a);
+    let outside = |sample: i64| sample.wrapping_add(1 << (bits - 1)) as u64 >> bits;
+    let time = row[0] as u64 >> 32;
+    let sample = samples.iter().fold(0, |bad, &sample| bad | outside(sample));
+    let status = statuses.iter().fold(0, |bad, &status| bad | status as u64 >> 1);
+    if time | sample | status == 0 {
+        return Ok(());
+    }
+    let place = if time != 0 {
+        0
+    } else if let Some(place) = samples.iter().position(|&sample| outside(sample) != 0) {
+        1 + place
+    } else {
+        1 + layout.a + statuses.iter().position(|&status| status as u64 > 1).unwrap_or(0)
+    };
+    Err(no(16, n, place as u32 + 2))
+}
+
+/// Up to sixteen statuses as a word, bit 0 first. Sixteen are shifted each by itself, which the compiler does at once.
+#[inline(always)]
+fn word_of(statuses: &[i64]) -> u16 {
+    let put = |word: u16, (bit, &status): (usize, &i64)| word | (status as u16) << bit;
+    match <&[i64; 16]>::try_from(statuses) {
+        Ok(sixteen) => sixteen.iter().enumerate().fold(0, put),
+        Err(_) => statuses.iter().enumerate().fold(0, put),
+    }
+}

@@ -1,0 +1,125 @@
+//! The tuned program gives the answers of the second one, and leaves the same bytes, on whole and damaged inputs.
+
+mod made;
+
+use bench::tuned::{self, Answer};
+use made::{Chance, Recording};
+
+/// An answer of the second program.
+fn of_second(answer: second::Answer) -> Answer {
+    Answer { number: answer.number, at: answer.at, field: answer.field, length: answer.length }
+}
+
+/// How often each number was answered: a test that never meets a refusal says little about it.
+struct Met([u32; 18]);
+
+impl Met {
+    fn note(&mut self, answer: Answer) {
+        self.0[answer.number as usize] += 1;
+    }
+
+    fn all_of(&self, numbers: &[usize]) {
+        for &number in numbers {
+            assert!(self.0[number] >= 20, "{number} was answered {} times", self.0[number]);
+        }
+    }
+}
+
+/// Calls both programs on equal buffers and compares answers and buffers whole.
+fn compare<T: Copy + PartialEq + std::fmt::Debug>(
+    room: usize,
+    fill: T,
+    met: &mut Met,
+    tuned: impl Fn(&mut [T]) -> Answer,
+    second: impl Fn(&mut [T]) -> second::Answer,
+) -> Answer {
+    let (mut ours, mut theirs) = (vec![fill; room], vec![fill; room]);
+    let answer = tuned(&mut ours);
+    assert_eq!(answer, of_second(second(&mut theirs)));
+    assert!(ours == theirs, "the buffers differ after {answer:?}");
+    met.note(answer);
+    answer
+}
+
+#[test]
+fn files_are_checked_alike() {
+    let (mut chance, mut met) = (Chance(1), Met([0; 18]));
+    for _ in 0..60_000 {
+        let Recording { a, d, rows, kind, data, .. } = Recording::made(&mut chance);
+        let answer = tuned::check(a, d, rows, kind, &data);
+        assert_eq!(answer, of_second(second::check(a, d, rows, kind, &data)), "{a} {d} {rows} {kind} {data:?}");
+        met.note(answer);
+    }
+    met.all_of(&[0, 10, 11, 12, 13, 14]);
+}
+
+#[test]
+fn rows_are_shown_alike() {
+    let (mut chance, mut met) = (Chance(2), Met([0; 18]));
+    for _ in 0..30_000 {
+        let Recording { a, d, rows, kind, data, .. } = Recording::made(&mut chance);
+        let n = chance.below(u64::from(rows.min(10)) + 2) as u32;
+        let room = (a.min(96) + d.min(256)) as usize + chance.below(3) as usize;
+        let tuned = |shown: &mut [i64]| tuned::row(a, d, rows, kind, &data, n, shown);
+        compare(room, -9, &mut met, tuned, |shown| second::row(a, d, rows, kind, &data, n, shown));
+    }
+    met.all_of(&[0, 10, 11, 12, 13, 14, 15, 17]);
+}
+
+#[test]
+fn rows_are_written_alike() {
+    let (mut chance, mut met) = (Chance(3), Met([0; 18]));
+    for _ in 0..60_000 {
+        let Recording { a, d, rows, kind, values, .. } = Recording::made(&mut chance);
+        let mut row = values[0].clone();
+        if chance.one_in(4) {
+            let place = chance.below(row.len() as u64) as usize;
+            row[place] = chance.odd_number();
+        }
+        if chance.one_in(20) {
+            row.pop();
+        }
+        let n = chance.below(u64::from(rows.min(1_000_000)) + 2) as u32;
+        let tuned = |out: &mut [u8]| tuned::write_row(a, d, rows, kind, n, &row, out);
+        let second = |out: &mut [u8]| second::write_row(a, d, rows, kind, n, &row, out);
+        let length = compare(2_000, 0xEE, &mut met, tuned, second).length as usize;
+        compare(length, 0xEE, &mut met, tuned, second);
+        compare(length.saturating_sub(1), 0xEE, &mut met, tuned, second);
+    }
+    met.all_of(&[0, 10, 15, 16, 17]);
+}
+
+#[test]
+fn kinds_are_changed_alike() {
+    let (mut chance, mut met) = (Chance(4), Met([0; 18]));
+    for _ in 0..40_000 {
+        let Recording { a, d, rows, kind, data, .. } = Recording::made(&mut chance);
+        let new_kind = if chance.one_in(40) { 3 } else { chance.below(3) as u32 };
+        let needed = tuned::length(a, d, rows, kind, &data, new_kind);
+        assert_eq!(needed, of_second(second::length(a, d, rows, kind, &data, new_kind)));
+        let tuned = |out: &mut [u8]| tuned::change(a, d, rows, kind, &data, new_kind, out);
+        let second = |out: &mut [u8]| second::change(a, d, rows, kind, &data, new_kind, out);
+        let length = needed.length as usize;
+        for room in [length + 5, length, length.saturating_sub(1)] {
+            compare(room, 0xEE, &mut met, tuned, second);
+        }
+    }
+    met.all_of(&[0, 10, 11, 12, 13, 14, 16, 17]);
+}
+
+#[test]
+fn configurations_are_read_alike() {
+    let (mut chance, mut met) = (Chance(5), Met([0; 18]));
+    for _ in 0..200_000 {
+        let cfg = made::configuration(&mut chance);
+        let room = if chance.one_in(50) { 33 } else { 36 };
+        let tuned = |shown: &mut [i64]| tuned::config(&cfg, shown);
+        compare(room, -9, &mut met, tuned, |shown| second::config(&cfg, shown));
+    }
+    met.all_of(&[0, 2, 3, 4, 5, 6, 7, 8, 9, 17]);
+    let long = vec![b'1'; 65_537];
+    let mut shown = [0; 34];
+    for cfg in [&long[..], &long[1..], &[]] {
+        assert_eq!(tuned::config(cfg, &mut shown), of_second(second::config(cfg, &mut [0; 34])));
+    }
+}

@@ -1,0 +1,125 @@
+//! What an accepted configuration shows.
+
+use crate::{calls, sizes, Kind, Layout, Refusal};
+
+/// What an accepted configuration shows.
+#[derive(Debug, Clone, Copy, PartialEq, Eq, Hash)]
+pub struct Config {
+    /// A, the number of analog channels.
+    pub analogs: u32,
+    /// D, the number of status channels.
+    pub statuses: u32,
+    /// The number of sampling rates, 0 to 8.
+    pub rates: u32,
+    /// The number of rows.
+    pub rows: u32,
+    /// The last row of each rate, 0 where there is none. With 0 rates there is one, the number of rows.
+    pub last_rows: [u32; sizes::MOST_RATES],
+    /// Date and time of the first sample.
+    pub first_sample: Moment,
+    /// Date and time of the trigger.
+    pub trigger: Moment,
+    /// Trigger minus first sample.
+    pub pre_trigger: PreTrigger,
+    /// The kind of the data file.
+    pub kind: Kind,
+    /// The time code, in minutes.
+    pub time_code: i32,
+    /// The local code, in minutes; `None` where it is x.
+    pub local_code: Option<i32>,
+    /// The time quality: the value of its hex digit, 0 to 11, or 15.
+    pub quality: u8,
+    /// The leap second code, 0 to 3.
+    pub leap_code: u8,
+}
+
+/// A date and a time of day.
+#[derive(Debug, Clone, Copy, PartialEq, Eq, PartialOrd, Ord, Hash)]
+pub struct Moment {
+    /// 1900 to 9999.
+    pub year: u16,
+    /// 1 to 12.
+    pub month: u8,
+    /// 1 to 31.
+    pub day: u8,
+    /// 0 to 23.
+    pub hour: u8,
+    /// 0 to 59.
+    pub minute: u8,
+    /// 0 to 59.
+    pub second: u8,
+    /// 0 to 999,999,999.
+    pub nanosecond: u32,
+}
+
+/// A signed time: `seconds` are rounded down, so that `nanoseconds` are always added. A trigger 1 ns before the first sample is -1 and 999,999,999.
+#[derive(Debug, Clone, Copy, PartialEq, Eq, PartialOrd, Ord, Hash)]
+pub struct PreTrigger {
+    /// Whole seconds, below 0 where the trigger comes before the first sample.
+    pub seconds: i64,
+    /// 0 to 999,999,999.
+    pub nanoseconds: u32,
+}
+
+impl Config {
+    /// The layout of the data file: what the other calls ask for.
+    pub fn layout(&self) -> Layout {
+        Layout { analogs: self.analogs, statuses: self.statuses, rows: self.rows, kind: self.kind }
+    }
+
+    /// The configuration that the places of the library's call show.
+    fn shown(p: &[i64; sizes::CONFIG_PLACES]) -> Config {
+        let mut last_rows = [0; sizes::MOST_RATES];
+        for (last_row, &place) in last_rows.iter_mut().zip(&p[4..12]) {
+            *last_row = place as u32;
+        }
+        Config {
+            analogs: p[0] as u32,
+            statuses: p[1] as u32,
+            rates: p[2] as u32,
+            rows: p[3] as u32,
+            last_rows,
+            first_sample: Moment::shown(&p[12..19]),
+            trigger: Moment::shown(&p[19..26]),
+            pre_trigger: PreTrigger { seconds: p[26], nanoseconds: p[27] as u32 },
+            kind: Kind::of_number(p[28] as u32).expect("an accepted configuration shows a kind"),
+            time_code: p[29] as i32,
+            local_code: if p[30] == 1 { None } else { Some(p[31] as i32) },
+            quality: p[32] as u8,
+            leap_code: p[33] as u8,
+        }
+    }
+}
+
+impl Moment {
+    /// The moment that seven places show.
+    fn shown(p: &[i64]) -> Moment {
+        Moment {
+            year: p[0] as u16,
+            month: p[1] as u8,
+            day: p[2] as u8,
+            hour: p[3] as u8,
+            minute: p[4] as u8,
+            second: p[5] as u8,
+            nanosecond: p[6] as u32,
+        }
+    }
+}
+
+/// Reads a configuration: the bytes of the whole file. Nothing is allocated.
+///
+/// Refused with 1; then line by line, in a line the first of 2 and 3 that is met, then 4, then the fields from the left, in each 5, 6, 8, 7; then 9.
+///
+/// ```
+/// let cfg = include_bytes!("../../../examples/one.cfg");
+/// let config = zagalume::read_config(cfg)?;
+/// assert_eq!((config.analogs, config.statuses, config.rows), (1, 1, 2));
+/// assert_eq!(config.kind, zagalume::Kind::Ascii);
+/// assert_eq!((config.pre_trigger.seconds, config.pre_trigger.nanoseconds), (0, 1_000_000));
+/// # Ok::<(), zagalume::Refusal>(())
+/// ```
+pub fn read_config(cfg: &[u8]) -> Result<Config, Refusal> {
+    let mut shown = [0; sizes::CONFIG_PLACES];
+    calls::config(cfg, &mut shown)?;
+    Ok(Config::shown(&shown))
+}

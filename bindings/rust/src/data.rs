@@ -1,0 +1,226 @@
+//! Data files: kinds, layouts, rows, and the calls on them.
+
+use crate::{calls, refused, sizes, Refusal};
+use std::fmt;
+
+/// The kind of data file.
+#[derive(Debug, Clone, Copy, PartialEq, Eq, Hash)]
+pub enum Kind {
+    /// Rows of text.
+    Ascii,
+    /// Samples of 2 bytes, -32,768 to 32,767.
+    Binary,
+    /// Samples of 4 bytes.
+    Binary32,
+}
+
+impl Kind {
+    /// The kind's number in the library's calls: 0, 1 or 2.
+    pub fn number(self) -> u32 {
+        match self {
+            Kind::Ascii => 0,
+            Kind::Binary => 1,
+            Kind::Binary32 => 2,
+        }
+    }
+
+    /// The kind of a number.
+    pub fn of_number(number: u32) -> Option<Kind> {
+        [Kind::Ascii, Kind::Binary, Kind::Binary32].into_iter().find(|kind| kind.number() == number)
+    }
+
+    /// The kind's word, as a listing spells it.
+    pub fn word(self) -> &'static str {
+        match self {
+            Kind::Ascii => "ASCII",
+            Kind::Binary => "binary",
+            Kind::Binary32 => "binary32",
+        }
+    }
+
+    /// The kind of a word, in any case, as a configuration has it.
+    ///
+    /// ```
+    /// assert_eq!(zagalume::Kind::of_word("BINARY32"), Some(zagalume::Kind::Binary32));
+    /// assert_eq!(zagalume::Kind::of_word("float32"), None);
+    /// ```
+    pub fn of_word(word: &str) -> Option<Kind> {
+        [Kind::Ascii, Kind::Binary, Kind::Binary32].into_iter().find(|kind| kind.word().eq_ignore_ascii_case(word))
+    }
+}
+
+impl fmt::Display for Kind {
+    fn fmt(&self, f: &mut fmt::Formatter<'_>) -> fmt::Result {
+        f.write_str(self.word())
+    }
+}
+
+/// The layout of a data file. [`Config::layout`](crate::Config::layout) takes it from a configuration; one that is out of the sizes is refused with 10 by every call.
+#[derive(Debug, Clone, Copy, PartialEq, Eq, Hash)]
+pub struct Layout {
+    /// A, the number of analog channels, 0 to 96.
+    pub analogs: u32,
+    /// D, the number of status channels, 0 to 256; A + D is at least 1.
+    pub statuses: u32,
+    /// The number of rows, 1 to 1,000,000.
+    pub rows: u32,
+    /// The kind of the data file.
+    pub kind: Kind,
+}
+
+impl Layout {
+    /// The places of a row in [`row_into`] and [`write_row_into`]: 1 + A + D.
+    pub fn row_places(&self) -> usize {
+        1 + self.analogs as usize + self.statuses as usize
+    }
+}
+
+/// A row of a data file.
+#[derive(Debug, Clone, PartialEq, Eq, Hash)]
+pub struct Row {
+    /// The timestamp.
+    pub time: u32,
+    /// A sample for each analog channel.
+    pub samples: Vec<i32>,
+    /// Whether each status channel is on.
+    pub statuses: Vec<bool>,
+}
+
+impl Row {
+    /// The row that the places of [`row_into`] show.
+    fn shown(analogs: usize, places: &[i64]) -> Row {
+        let (samples, statuses) = places[1..].split_at(analogs);
+        Row {
+            time: places[0] as u32,
+            samples: samples.iter().map(|&sample| sample as i32).collect(),
+            statuses: statuses.iter().map(|&status| status == 1).collect(),
+        }
+    }
+
+    /// Puts the row in its places, where it has as many samples and statuses as the layout: how many places. Else it is refused with 10, as a row with too few places is.
+    fn put(&self, layout: Layout, places: &mut [i64; sizes::MOST_ROW_PLACES]) -> Result<usize, Refusal> {
+        let sized = self.samples.len() == layout.analogs as usize && self.statuses.len() == layout.statuses as usize;
+        if !sized || layout.row_places() > places.len() {
+            return Err(Refusal { number: refused::LAYOUT, at: 0, field: 0 });
+        }
+        let samples = self.samples.iter().map(|&sample| i64::from(sample));
+        let statuses = self.statuses.iter().map(|&status| i64::from(status));
+        let row = std::iter::once(i64::from(self.time)).chain(samples).chain(statuses);
+        for (place, value) in places.iter_mut().zip(row) {
+            *place = value;
+        }
+        Ok(layout.row_places())
+    }
+}
+
+/// Checks a data file against its layout. Nothing is allocated.
+///
+/// Refused with 10; then for the file. Binary kinds: 11, then row by row 12, 13. ASCII: row by row the first of 11 and 14 that the scan of the row meets, then 14 for the
+/// number of fields, then the fields from the left, in field 1 14 and then 12, in the others 14; then 11 for what follows the last row.
+///
+/// ```
+/// let cfg = include_bytes!("../../../examples/one.cfg");
+/// let dat = include_bytes!("../../../examples/one.dat");
+/// let layout = zagalume::read_config(cfg)?.layout();
+/// zagalume::check(layout, dat)?;
+/// let cut = zagalume::check(layout, &dat[..8]).unwrap_err();
+/// assert_eq!(cut, zagalume::Refusal { number: zagalume::refused::FILE_LENGTH, at: 1, field: 0 });
+/// # Ok::<(), zagalume::Refusal>(())
+/// ```
+pub fn check(layout: Layout, data: &[u8]) -> Result<(), Refusal> {
+    calls::check(layout, data).map(|_| ())
+}
+
+/// Row n, counted from 1, of a data file that is fine as a whole: each call checks the whole file.
+///
+/// Refused with 10; 15; then for the file, as [`check`].
+///
+/// ```
+/// let cfg = include_bytes!("../../../examples/one.cfg");
+/// let dat = include_bytes!("../../../examples/one.dat");
+/// let layout = zagalume::read_config(cfg)?.layout();
+/// let row = zagalume::row(layout, dat, 2)?;
+/// assert_eq!((row.time, row.samples, row.statuses), (1000, vec![300], vec![true]));
+/// # Ok::<(), zagalume::Refusal>(())
+/// ```
+pub fn row(layout: Layout, data: &[u8], n: u32) -> Result<Row, Refusal> {
+    let mut places = [0; sizes::MOST_ROW_PLACES];
+    let count = row_into(layout, data, n, &mut places)?;
+    Ok(Row::shown(layout.analogs as usize, &places[..count]))
+}
+
+/// As [`row`], into lent places, with nothing allocated: the time, A samples and D statuses, 0 or 1. How many places were written, which is [`Layout::row_places`].
+///
+/// Refused as [`row`]; last of all with 17, where there are fewer places.
+pub fn row_into(layout: Layout, data: &[u8], n: u32, shown: &mut [i64]) -> Result<usize, Refusal> {
+    calls::row(layout, data, n, shown)?;
+    Ok(layout.row_places())
+}
+
+/// The bytes of a row, as row n of a data file of that layout. No end mark is added.
+///
+/// Refused with 10, also where the row has not A samples and D statuses; 15; 16 at row n and the first field whose sample does not fit the kind.
+///
+/// ```
+/// use zagalume::{Kind, Layout, Row};
+/// let layout = Layout { analogs: 1, statuses: 1, rows: 2, kind: Kind::Ascii };
+/// let row = Row { time: 1000, samples: vec![300], statuses: vec![true] };
+/// assert_eq!(zagalume::write_row(layout, 2, &row)?, b"2,1000,300,1\r\n");
+/// # Ok::<(), zagalume::Refusal>(())
+/// ```
+pub fn write_row(layout: Layout, n: u32, row: &Row) -> Result<Vec<u8>, Refusal> {
+    let mut places = [0; sizes::MOST_ROW_PLACES];
+    let count = row.put(layout, &mut places)?;
+    let mut out = [0; sizes::MOST_ROW_BYTES];
+    let length = write_row_into(layout, n, &places[..count], &mut out)?;
+    Ok(out[..length].to_vec())
+}
+
+/// As [`write_row`], from the places that [`row_into`] shows, into lent bytes, with nothing allocated: how many bytes were written. Places past 1 + A + D are not read.
+///
+/// Refused with 10, also where the row has fewer places; 15; 16 at row n and the first field from the left that does not fit, a time or a status among them; 17, where the
+/// room is too short.
+pub fn write_row_into(layout: Layout, n: u32, row: &[i64], out: &mut [u8]) -> Result<usize, Refusal> {
+    calls::write_row(layout, n, row, out)
+}
+
+/// How many bytes the data file has once it is changed to another kind. Nothing is allocated.
+///
+/// Refused as [`change`].
+///
+/// ```
+/// let cfg = include_bytes!("../../../examples/one.cfg");
+/// let dat = include_bytes!("../../../examples/one.dat");
+/// let layout = zagalume::read_config(cfg)?.layout();
+/// assert_eq!(zagalume::bytes_needed(layout, dat, zagalume::Kind::Binary)?, 24);
+/// # Ok::<(), zagalume::Refusal>(())
+/// ```
+pub fn bytes_needed(layout: Layout, data: &[u8], new_kind: Kind) -> Result<usize, Refusal> {
+    calls::length(layout, data, new_kind.number())
+}
+
+/// The data file in another kind, or in the same: a text is then in its plain form.
+///
+/// Refused with 10; then for the file, as [`check`]; then with 16 at the first row and field whose sample does not fit the new kind.
+///
+/// ```
+/// let cfg = include_bytes!("../../../examples/one.cfg");
+/// let dat = include_bytes!("../../../examples/one.dat");
+/// let layout = zagalume::read_config(cfg)?.layout();
+/// let binary = zagalume::change(layout, dat, zagalume::Kind::Binary)?;
+/// assert_eq!(binary[..12], [1, 0, 0, 0, 0, 0, 0, 0, 0xFD, 0xFF, 0, 0]);
+/// # Ok::<(), zagalume::Refusal>(())
+/// ```
+pub fn change(layout: Layout, data: &[u8], new_kind: Kind) -> Result<Vec<u8>, Refusal> {
+    let mut out = vec![0; bytes_needed(layout, data, new_kind)?];
+    let length = change_into(layout, data, new_kind, &mut out)?;
+    out.truncate(length);
+    Ok(out)
+}
+
+/// As [`change`], into lent bytes, with nothing allocated: how many bytes were written.
+///
+/// Refused as [`change`]; last of all with 17, where the room is too short.
+pub fn change_into(layout: Layout, data: &[u8], new_kind: Kind, out: &mut [u8]) -> Result<usize, Refusal> {
+    calls::change(layout, data, new_kind.number(), out)
+}

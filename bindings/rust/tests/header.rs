@@ -1,0 +1,71 @@
+//! The names and numbers of include/zagalume.h are those of this crate.
+
+use std::collections::BTreeMap;
+use zagalume::{refused, sizes, Kind};
+
+/// Every `ZL_NAME = NUMBER` of the header.
+fn named() -> BTreeMap<&'static str, usize> {
+    let mut names = BTreeMap::new();
+    for line in include_str!("../../../include/zagalume.h").lines() {
+        let Some((name, rest)) = line.trim().strip_prefix("ZL_").and_then(|rest| rest.split_once(" = ")) else {
+            continue;
+        };
+        let digits = rest.split(|c: char| !c.is_ascii_digit()).next().unwrap();
+        names.insert(name, digits.parse().unwrap());
+    }
+    names
+}
+
+#[test]
+fn kinds() {
+    for (name, kind) in [("ASCII", Kind::Ascii), ("BINARY", Kind::Binary), ("BINARY32", Kind::Binary32)] {
+        assert_eq!(named()[name], kind.number() as usize);
+    }
+}
+
+#[test]
+fn refusals() {
+    let numbers = [
+        ("CONFIG_SIZE", refused::CONFIG_SIZE),
+        ("EARLY_END", refused::EARLY_END),
+        ("BYTE", refused::BYTE),
+        ("FIELD_COUNT", refused::FIELD_COUNT),
+        ("FORM", refused::FORM),
+        ("VALUE", refused::VALUE),
+        ("AGREEMENT", refused::AGREEMENT),
+        ("YEAR", refused::YEAR),
+        ("BYTES_AFTER", refused::BYTES_AFTER),
+        ("LAYOUT", refused::LAYOUT),
+        ("FILE_LENGTH", refused::FILE_LENGTH),
+        ("ROW_NUMBER", refused::ROW_NUMBER),
+        ("PADDING", refused::PADDING),
+        ("TEXT_ROW", refused::TEXT_ROW),
+        ("NO_SUCH_ROW", refused::NO_SUCH_ROW),
+        ("MISFIT", refused::MISFIT),
+        ("NO_ROOM", refused::NO_ROOM),
+    ];
+    let ours: BTreeMap<String, usize> =
+        numbers.map(|(name, number)| (format!("REFUSED_{name}"), number as usize)).into();
+    let theirs: BTreeMap<String, usize> = named()
+        .into_iter()
+        .filter(|(name, _)| name.starts_with("REFUSED_"))
+        .map(|(name, n)| (name.to_string(), n))
+        .collect();
+    assert_eq!(ours, theirs);
+}
+
+#[test]
+fn sizes_of_the_house() {
+    for (name, size) in [
+        ("MOST_CONFIG_BYTES", sizes::MOST_CONFIG_BYTES),
+        ("MOST_ANALOGS", sizes::MOST_ANALOGS),
+        ("MOST_STATUSES", sizes::MOST_STATUSES),
+        ("MOST_RATES", sizes::MOST_RATES),
+        ("MOST_ROWS", sizes::MOST_ROWS),
+        ("MOST_ROW_PLACES", sizes::MOST_ROW_PLACES),
+        ("MOST_ROW_BYTES", sizes::MOST_ROW_BYTES),
+        ("MOST_REASON_BYTES", sizes::MOST_REASON_BYTES),
+    ] {
+        assert_eq!(named()[name], size, "{name}");
+    }
+}

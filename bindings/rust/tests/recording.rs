@@ -1,0 +1,121 @@
+//! One recording in its three kinds, from the repository's examples: read, checked, shown, written and changed.
+
+use zagalume::{Kind, Layout, Moment, PreTrigger, Row};
+
+const ONE: [(&[u8], &[u8], Kind); 3] = [
+    (include_bytes!("../../../examples/one.cfg"), include_bytes!("../../../examples/one.dat"), Kind::Ascii),
+    (
+        include_bytes!("../../../examples/one-binary.cfg"),
+        include_bytes!("../../../examples/one-binary.dat"),
+        Kind::Binary,
+    ),
+    (
+        include_bytes!("../../../examples/one-binary32.cfg"),
+        include_bytes!("../../../examples/one-binary32.dat"),
+        Kind::Binary32,
+    ),
+];
+
+fn layout(kind: Kind) -> Layout {
+    Layout { analogs: 1, statuses: 1, rows: 2, kind }
+}
+
+fn rows() -> [Row; 2] {
+    [
+        Row { time: 0, samples: vec![-3], statuses: vec![false] },
+        Row { time: 1000, samples: vec![300], statuses: vec![true] },
+    ]
+}
+
+#[test]
+fn a_configuration_shows_every_field() {
+    let moment = |nanosecond| Moment { year: 2024, month: 2, day: 3, hour: 9, minute: 15, second: 0, nanosecond };
+    for (cfg, _, kind) in ONE {
+        let config = zagalume::read_config(cfg).unwrap();
+        assert_eq!(config.layout(), layout(kind));
+        assert_eq!((config.rates, config.last_rows), (1, [2, 0, 0, 0, 0, 0, 0, 0]));
+        assert_eq!((config.first_sample, config.trigger), (moment(0), moment(1_000_000)));
+        assert_eq!(config.pre_trigger, PreTrigger { seconds: 0, nanoseconds: 1_000_000 });
+        assert_eq!((config.time_code, config.local_code), (0, Some(0)));
+        assert_eq!((config.quality, config.leap_code), (0, 3));
+    }
+}
+
+#[test]
+fn codes_quality_and_a_trigger_before_the_first_sample() {
+    let text = String::from_utf8(ONE[0].0.to_vec()).unwrap();
+    let swapped = text.replace("00.000000", "00.5").replace("00.001000", "00.000000").replace("00.5", "00.001000");
+    let cfg = swapped.replace("\r\n0,0\r\n0,3", "\r\n-5h30,x\r\nF,1");
+    let config = zagalume::read_config(cfg.as_bytes()).unwrap();
+    assert_eq!(config.pre_trigger, PreTrigger { seconds: -1, nanoseconds: 999_000_000 });
+    assert_eq!((config.time_code, config.local_code), (-330, None));
+    assert_eq!((config.quality, config.leap_code), (15, 1));
+}
+
+#[test]
+fn each_kind_is_checked_and_shown() {
+    for (_, dat, kind) in ONE {
+        zagalume::check(layout(kind), dat).unwrap();
+        for (n, row) in (1..).zip(rows()) {
+            assert_eq!(zagalume::row(layout(kind), dat, n).unwrap(), row);
+        }
+    }
+}
+
+#[test]
+fn rows_in_a_row_are_the_file() {
+    for (_, dat, kind) in ONE {
+        let mut bytes = Vec::new();
+        for (n, row) in (1..).zip(rows()) {
+            bytes.extend(zagalume::write_row(layout(kind), n, &row).unwrap());
+        }
+        if kind == Kind::Ascii {
+            bytes.extend([0x1A, 0x0D, 0x0A]);
+        }
+        assert_eq!(bytes, dat);
+    }
+}
+
+#[test]
+fn each_kind_is_changed_to_each() {
+    for (_, dat, kind) in ONE {
+        for (_, new_dat, new_kind) in ONE {
+            assert_eq!(zagalume::bytes_needed(layout(kind), dat, new_kind), Ok(new_dat.len()));
+            assert_eq!(zagalume::change(layout(kind), dat, new_kind).unwrap(), new_dat);
+        }
+    }
+}
+
+#[test]
+fn what_is_lent_past_the_answer_stays_as_it_was() {
+    let (_, dat, kind) = ONE[0];
+    let mut places = [7; 5];
+    assert_eq!(zagalume::row_into(layout(kind), dat, 2, &mut places), Ok(3));
+    assert_eq!(places, [1000, 300, 1, 7, 7]);
+    let mut bytes = [7; 20];
+    assert_eq!(zagalume::write_row_into(layout(kind), 1, &places, &mut bytes), Ok(14));
+    assert_eq!(&bytes, b"1,1000,300,1\r\n\x07\x07\x07\x07\x07\x07");
+    let mut bytes = [7; 26];
+    assert_eq!(zagalume::change_into(layout(kind), dat, Kind::Binary, &mut bytes), Ok(24));
+    assert_eq!((&bytes[..24], &bytes[24..]), (ONE[1].1, &[7, 7][..]));
+}
+
+#[test]
+fn the_largest_row_of_each_kind() {
+    for kind in [Kind::Ascii, Kind::Binary, Kind::Binary32] {
+        let largest = Layout { analogs: 96, statuses: 256, rows: 1, kind };
+        let row = Row { time: u32::MAX, samples: vec![i16::MIN.into(); 96], statuses: vec![true; 256] };
+        let bytes = zagalume::write_row(largest, 1, &row).unwrap();
+        assert_eq!(bytes.len(), [1 + 11 + 96 * 7 + 256 * 2 + 2, 232, 424][kind.number() as usize]);
+        assert_eq!(zagalume::row(largest, &bytes, 1).unwrap(), row);
+    }
+}
+
+#[test]
+fn kinds_by_number_and_by_word() {
+    for (_, _, kind) in ONE {
+        assert_eq!(Kind::of_number(kind.number()), Some(kind));
+        assert_eq!(Kind::of_word(&kind.to_string()), Some(kind));
+    }
+    assert_eq!(Kind::of_number(3), None);
+}

@@ -1,0 +1,142 @@
+//! Every refusal comes back with its number and place, and leaves what was lent as it was.
+
+use std::{collections::BTreeSet, fs, path::Path};
+use zagalume::{refused, Config, Kind, Layout, Refusal, Row};
+
+fn no(number: u32, at: u32, field: u32) -> Refusal {
+    Refusal { number, at, field }
+}
+
+fn layout(analogs: u32, statuses: u32, rows: u32, kind: Kind) -> Layout {
+    Layout { analogs, statuses, rows, kind }
+}
+
+fn one(kind: Kind) -> Layout {
+    layout(1, 1, 2, kind)
+}
+
+fn example(name: &str) -> Vec<u8> {
+    fs::read(Path::new(env!("CARGO_MANIFEST_DIR")).join("../../examples").join(name)).unwrap()
+}
+
+/// The refusal of a recording, as the listing has it.
+fn listed(cfg: &[u8], dat: &[u8]) -> (&'static str, Refusal) {
+    match zagalume::read_config(cfg).map(|config: Config| config.layout()) {
+        Err(refusal) => ("cfg", refusal),
+        Ok(layout) => ("dat", zagalume::check(layout, dat).unwrap_err()),
+    }
+}
+
+#[test]
+fn every_example_is_refused_as_it_says() {
+    let folder = Path::new(env!("CARGO_MANIFEST_DIR")).join("../../examples/refusals");
+    let mut numbers = BTreeSet::new();
+    for entry in fs::read_dir(folder).unwrap() {
+        let out = entry.unwrap().path();
+        if out.extension().is_some_and(|word| word == "out") {
+            let read = |word| fs::read(out.with_extension(word)).unwrap();
+            let (file, Refusal { number, at, field }) = listed(&read("cfg"), &read("dat"));
+            let line = format!("no {file} {number} {at} {field}\n");
+            assert_eq!(line.as_bytes(), read("out"), "{}", out.display());
+            numbers.insert(number);
+        }
+    }
+    assert_eq!(numbers, (2..=14).filter(|&number| number != refused::LAYOUT).collect());
+}
+
+#[test]
+fn a_configuration_over_its_size() {
+    assert_eq!(zagalume::read_config(&[b' '; 65_537]), Err(no(refused::CONFIG_SIZE, 0, 0)));
+}
+
+#[test]
+fn layouts_out_of_the_sizes() {
+    for (a, d, rows) in
+        [(97, 1, 2), (1, 257, 2), (0, 0, 2), (1, 1, 0), (1, 1, 1_000_001), (u32::MAX, u32::MAX, u32::MAX)]
+    {
+        let bad = layout(a, d, rows, Kind::Binary);
+        let refusal = no(refused::LAYOUT, 0, 0);
+        assert_eq!(zagalume::check(bad, &[]), Err(refusal));
+        assert_eq!(zagalume::row(bad, &[], 0), Err(refusal));
+        assert_eq!(zagalume::write_row_into(bad, 0, &[], &mut []), Err(refusal));
+        assert_eq!(zagalume::write_row(bad, 0, &Row { time: 0, samples: vec![0], statuses: vec![] }), Err(refusal));
+        assert_eq!(zagalume::bytes_needed(bad, &[], Kind::Ascii), Err(refusal));
+        assert_eq!(zagalume::change(bad, &[], Kind::Ascii), Err(refusal));
+    }
+}
+
+#[test]
+fn a_row_of_the_wrong_size_comes_before_no_such_row() {
+    let refusal = Err(no(refused::LAYOUT, 0, 0));
+    for (samples, statuses) in [(0, 1), (2, 1), (1, 0), (1, 2), (0, 2), (2, 0), (400, 400)] {
+        let row = Row { time: 0, samples: vec![0; samples], statuses: vec![false; statuses] };
+        assert_eq!(zagalume::write_row(one(Kind::Ascii), 3, &row), refusal);
+    }
+    assert_eq!(zagalume::write_row_into(one(Kind::Ascii), 3, &[0, 0], &mut []).map(|_| vec![]), refusal);
+}
+
+#[test]
+fn no_such_row_comes_before_the_file() {
+    for n in [0, 3, u32::MAX] {
+        assert_eq!(zagalume::row(one(Kind::Ascii), b"bad", n), Err(no(refused::NO_SUCH_ROW, 0, 0)));
+        let written = zagalume::write_row_into(one(Kind::Binary), n, &[-1, 40_000, 2], &mut []);
+        assert_eq!(written, Err(no(refused::NO_SUCH_ROW, 0, 0)));
+    }
+}
+
+#[test]
+fn what_does_not_fit_comes_before_the_room() {
+    let data = b"1,0,-3,0\r\n2,1000,32768,1\r\n";
+    let refusal = Err(no(refused::MISFIT, 2, 3));
+    assert_eq!(zagalume::bytes_needed(one(Kind::Ascii), data, Kind::Binary), refusal);
+    assert_eq!(zagalume::change_into(one(Kind::Ascii), data, Kind::Binary, &mut []), refusal);
+    let row = Row { time: 0, samples: vec![32_768], statuses: vec![false] };
+    assert_eq!(zagalume::write_row(one(Kind::Binary), 1, &row), Err(no(refused::MISFIT, 1, 3)));
+    for (field, row) in [(2, [-1, 40_000, 2]), (2, [1 << 32, 0, 0]), (3, [0, 40_000, 2]), (4, [0, 0, 2])] {
+        let mut out = [7; 100];
+        let written = zagalume::write_row_into(one(Kind::Binary), 2, &row, &mut out);
+        assert_eq!((written, out), (Err(no(refused::MISFIT, 2, field)), [7; 100]));
+    }
+}
+
+#[test]
+fn room_that_is_one_short() {
+    let dat = example("one.dat");
+    let refusal = Err(no(refused::NO_ROOM, 0, 0));
+    let (mut places, mut bytes) = ([7; 2], [7; 23]);
+    assert_eq!(zagalume::row_into(one(Kind::Ascii), &dat, 1, &mut places), refusal);
+    assert_eq!(zagalume::write_row_into(one(Kind::Ascii), 1, &[0, -3, 0], &mut bytes[..9]), refusal);
+    assert_eq!(zagalume::change_into(one(Kind::Ascii), &dat, Kind::Binary, &mut bytes), refusal);
+    assert_eq!((places, bytes), ([7; 2], [7; 23]));
+}
+
+#[test]
+fn every_number_has_a_meaning_that_fits() {
+    let mut texts = BTreeSet::new();
+    for number in 1..=17 {
+        let text = zagalume::reason(number).unwrap();
+        assert!(text.bytes().all(|byte| (32..=126).contains(&byte)), "{text}");
+        let mut out = vec![7; text.len() - 1];
+        assert_eq!(zagalume::reason_into(number, &mut out), Err(no(refused::NO_ROOM, 0, 0)));
+        assert!(out.iter().all(|&byte| byte == 7));
+        texts.insert(text);
+    }
+    assert_eq!(texts.len(), 17);
+    for number in [0, 18, u32::MAX] {
+        assert_eq!(zagalume::reason(number), Err(no(refused::LAYOUT, 0, 0)));
+    }
+}
+
+#[test]
+fn a_refusal_is_said_with_number_place_and_meaning() {
+    let said = |number, at, field, place| {
+        let text = format!("refusal {number}{place}: {}", zagalume::reason(number).unwrap());
+        assert_eq!(no(number, at, field).to_string(), text);
+    };
+    said(refused::CONFIG_SIZE, 0, 0, "");
+    said(refused::BYTES_AFTER, 14, 0, " at line 14");
+    said(refused::FORM, 3, 9, " at line 3, field 9");
+    said(refused::FILE_LENGTH, 3, 0, " at row 3");
+    said(refused::ROW_NUMBER, 2, 1, " at row 2, field 1");
+    assert_eq!(no(99, 0, 0).to_string(), "refusal 99");
+}

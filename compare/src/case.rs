@@ -1,0 +1,196 @@
+//! A case: one call with its arguments, and how it is spelled on a line.
+
+use std::fmt::{self, Display, Formatter};
+
+/// A layout as it is given to a call, out of the sizes too.
+#[derive(Debug, Clone, Copy, PartialEq, Eq)]
+pub struct Layout {
+    pub a: u32,
+    pub d: u32,
+    pub rows: u32,
+    pub kind: u32,
+}
+
+impl Layout {
+    pub const fn new(a: u32, d: u32, rows: u32, kind: u32) -> Layout {
+        Layout { a, d, rows, kind }
+    }
+
+    /// The same of another kind.
+    pub fn of_kind(self, kind: u32) -> Layout {
+        Layout { kind, ..self }
+    }
+
+    /// Places of a row: time, A samples, D statuses; of a layout out of the sizes, some few.
+    pub fn places(&self) -> usize {
+        1 + self.a.min(100) as usize + self.d.min(300) as usize
+    }
+}
+
+/// One call with its arguments; `places` and `room` are the length of the buffer lent for the answer.
+#[derive(Debug, Clone, PartialEq, Eq)]
+pub enum Case {
+    Config { cfg: Vec<u8>, places: usize },
+    Check { layout: Layout, file: Vec<u8> },
+    Row { layout: Layout, file: Vec<u8>, n: u32, places: usize },
+    WriteRow { layout: Layout, n: u32, row: Vec<i64>, room: usize },
+    Length { layout: Layout, file: Vec<u8>, new_kind: u32 },
+    Change { layout: Layout, file: Vec<u8>, new_kind: u32, room: usize },
+    Reason { number: u32, room: usize },
+}
+
+/// The names of the calls, in the order of `Case::call`.
+pub const CALLS: [&str; 7] = ["config", "check", "row", "write_row", "length", "change", "reason"];
+
+/// The refusals that each call can give, in the order of `CALLS`.
+pub const POSSIBLE: [&[u32]; 7] = [
+    &[1, 2, 3, 4, 5, 6, 7, 8, 9, 17],
+    &[10, 11, 12, 13, 14],
+    &[10, 11, 12, 13, 14, 15, 17],
+    &[10, 15, 16, 17],
+    &[10, 11, 12, 13, 14, 16],
+    &[10, 11, 12, 13, 14, 16, 17],
+    &[10, 17],
+];
+
+impl Case {
+    /// The call's index in `CALLS`.
+    pub fn call(&self) -> usize {
+        match self {
+            Case::Config { .. } => 0,
+            Case::Check { .. } => 1,
+            Case::Row { .. } => 2,
+            Case::WriteRow { .. } => 3,
+            Case::Length { .. } => 4,
+            Case::Change { .. } => 5,
+            Case::Reason { .. } => 6,
+        }
+    }
+
+    /// Bytes of the buffer lent for the answer.
+    pub fn room(&self) -> usize {
+        match self {
+            Case::Config { places, .. } | Case::Row { places, .. } => 8 * places,
+            Case::WriteRow { room, .. } | Case::Change { room, .. } | Case::Reason { room, .. } => *room,
+            Case::Check { .. } | Case::Length { .. } => 0,
+        }
+    }
+
+    /// Bytes of that buffer that a "yes" of this length reports, and so changes.
+    pub fn reported(&self, length: u32) -> usize {
+        match self {
+            Case::Config { .. } => 8 * 34,
+            Case::Row { layout, .. } => 8 * layout.places(),
+            Case::Check { .. } | Case::Length { .. } => 0,
+            Case::WriteRow { .. } | Case::Change { .. } | Case::Reason { .. } => length as usize,
+        }
+    }
+
+    /// Whether the buffer lent for the answer is of 64-bit places, not of bytes.
+    pub fn shows_places(&self) -> bool {
+        matches!(self, Case::Config { .. } | Case::Row { .. })
+    }
+}
+
+/// Bytes on a line: 33 to 126 as they stand, but the backslash; all others as \xHH.
+pub fn escaped(bytes: &[u8]) -> String {
+    let mut text = String::new();
+    for &byte in bytes {
+        match byte {
+            b'\\' | 0..=32 | 127..=255 => text.push_str(&format!("\\x{byte:02x}")),
+            _ => text.push(byte as char),
+        }
+    }
+    text
+}
+
+/// The bytes that a line spells; nothing if it is misspelled.
+pub fn unescaped(text: &str) -> Option<Vec<u8>> {
+    let mut bytes = Vec::new();
+    let mut rest = text.as_bytes();
+    while let Some((&byte, tail)) = rest.split_first() {
+        rest = tail;
+        if byte != b'\\' {
+            bytes.push(byte);
+            continue;
+        }
+        let digits = std::str::from_utf8(tail.get(1..3)?).ok()?;
+        bytes.push(u8::from_str_radix(digits, 16).ok()?);
+        rest = &tail[3..];
+    }
+    Some(bytes)
+}
+
+/// Numbers on a line, with commas between.
+pub fn listed(places: &[i64]) -> String {
+    let words: Vec<String> = places.iter().map(i64::to_string).collect();
+    words.join(",")
+}
+
+/// The numbers that a line lists.
+pub fn unlisted(text: &str) -> Option<Vec<i64>> {
+    if text.is_empty() {
+        return Some(Vec::new());
+    }
+    text.split(',').map(|word| word.parse().ok()).collect()
+}
+
+impl Display for Layout {
+    fn fmt(&self, f: &mut Formatter) -> fmt::Result {
+        write!(f, "{} {} {} {}", self.a, self.d, self.rows, self.kind)
+    }
+}
+
+/// A case as a line of kept/cases has it: its numbers stand before its bytes, a layout as A, D, rows and kind.
+impl Display for Case {
+    fn fmt(&self, f: &mut Formatter) -> fmt::Result {
+        write!(f, "{} ", CALLS[self.call()])?;
+        match self {
+            Case::Config { cfg, places } => write!(f, "{places} {}", escaped(cfg)),
+            Case::Check { layout, file } => write!(f, "{layout} {}", escaped(file)),
+            Case::Row { layout, file, n, places } => write!(f, "{layout} {n} {places} {}", escaped(file)),
+            Case::WriteRow { layout, n, row, room } => write!(f, "{layout} {n} {room} {}", listed(row)),
+            Case::Length { layout, file, new_kind } => write!(f, "{layout} {new_kind} {}", escaped(file)),
+            Case::Change { layout, file, new_kind, room } => write!(f, "{layout} {new_kind} {room} {}", escaped(file)),
+            Case::Reason { number, room } => write!(f, "{number} {room}"),
+        }
+    }
+}
+
+/// The words of a line, read one after the other.
+struct Words<'a>(std::str::Split<'a, char>);
+
+impl Words<'_> {
+    fn number<T: std::str::FromStr>(&mut self) -> Option<T> {
+        self.0.next()?.parse().ok()
+    }
+
+    fn layout(&mut self) -> Option<Layout> {
+        Some(Layout { a: self.number()?, d: self.number()?, rows: self.number()?, kind: self.number()? })
+    }
+
+    fn bytes(&mut self) -> Option<Vec<u8>> {
+        unescaped(self.0.next()?)
+    }
+
+    fn list(&mut self) -> Option<Vec<i64>> {
+        unlisted(self.0.next()?)
+    }
+}
+
+/// The case that a line spells; nothing if it is misspelled.
+pub fn parse(line: &str) -> Option<Case> {
+    let mut words = Words(line.split(' '));
+    let w = &mut words;
+    let case = match w.0.next()? {
+        "config" => Case::Config { places: w.number()?, cfg: w.bytes()? },
+        "check" => Case::Check { layout: w.layout()?, file: w.bytes()? },
+        "row" => Case::Row { layout: w.layout()?, n: w.number()?, places: w.number()?, file: w.bytes()? },
+        "write_row" => Case::WriteRow { layout: w.layout()?, n: w.number()?, room: w.number()?, row: w.list()? },
+        "length" => Case::Length { layout: w.layout()?, new_kind: w.number()?, file: w.bytes()? },
+        "change" => Case::Change { layout: w.layout()?, new_kind: w.number()?, room: w.number()?, file: w.bytes()? },
+        "reason" => Case::Reason { number: w.number()?, room: w.number()? },
+        _ => return None,
+    };
+    words.0.next().is_none().then_some(case)
+}

@@ -1,0 +1,161 @@
+//! Data files made from rows.
+
+use crate::case::Layout;
+use crate::dice::Dice;
+use crate::draft::count;
+
+/// The mark that ends a plain text file.
+pub const MARK: &[u8] = b"\x1a\r\n";
+
+/// Samples at the edges of the kinds, and where a plain decimal gets a digit more.
+#[rustfmt::skip]
+pub const SAMPLES: [i64; 44] = [
+    0, 1, -1, 9, 10, -9, -10, 99, 100, 127, 128, -128, -129, 255, 256, 999, 1000, 9_999, 10_000, 32_766, 32_767, 32_768,
+    -32_767, -32_768, -32_769, 65_535, 65_536, 99_999, 100_000, 999_999, 1_000_000, 9_999_999, 10_000_000, 99_999_999,
+    100_000_000, 999_999_999, 1_000_000_000, -999_999_999, -1_000_000_000, 2_147_483_646, 2_147_483_647,
+    -2_147_483_647, -2_147_483_648, -100,
+];
+
+/// Numbers that fit no field, beside those at the edges.
+#[rustfmt::skip]
+pub const BEYOND: [i64; 14] = [
+    2_147_483_648, -2_147_483_649, 4_294_967_294, 4_294_967_295, 4_294_967_296, -4_294_967_296, 4_294_967_297, 2,
+    -2, i64::MAX, i64::MIN, i64::MIN + 1, 1 << 32 | 5, 65_537,
+];
+
+/// A file's rows: of each its time, samples and statuses.
+#[derive(Clone)]
+pub struct Recording {
+    pub layout: Layout,
+    pub rows: Vec<Vec<i64>>,
+}
+
+/// A row's bytes in a binary kind.
+fn binary_row(layout: Layout, n: u32, row: &[i64]) -> Vec<u8> {
+    let width = if layout.kind == 1 { 2 } else { 4 };
+    let (samples, statuses) = row[1..].split_at(layout.a as usize);
+    let mut bytes = n.to_le_bytes().to_vec();
+    bytes.extend_from_slice(&row[0].to_le_bytes()[..4]);
+    for sample in samples {
+        bytes.extend_from_slice(&sample.to_le_bytes()[..width]);
+    }
+    for sixteen in statuses.chunks(16) {
+        let word = sixteen.iter().rev().fold(0u16, |word, &status| word << 1 | status as u16);
+        bytes.extend_from_slice(&word.to_le_bytes());
+    }
+    bytes
+}
+
+/// A row's fields as plain text.
+pub fn text_fields(n: u32, row: &[i64]) -> Vec<String> {
+    [i64::from(n)].iter().chain(row).map(i64::to_string).collect()
+}
+
+/// A row's bytes in the layout's kind, with its line end if it is text.
+pub fn row_bytes(layout: Layout, n: u32, row: &[i64]) -> Vec<u8> {
+    match layout.kind {
+        0 => (text_fields(n, row).join(",") + "\r\n").into_bytes(),
+        _ => binary_row(layout, n, row),
+    }
+}
+
+/// A row of samples that fit every kind; rows and places differ.
+fn plain_row(layout: Layout, n: u32) -> Vec<i64> {
+    let n = i64::from(n);
+    let place = |k: i64| match k {
+        0 => 1000 * (n - 1),
+        _ if k <= i64::from(layout.a) => (n % 100 * 313 + k * 7) * if k % 2 == 1 { -1 } else { 1 },
+        _ => (n + k * k / 3) % 2,
+    };
+    (0..layout.places() as i64).map(place).collect()
+}
+
+/// A file of plain rows made row by row, for one that is large.
+pub fn plain_file(layout: Layout) -> Vec<u8> {
+    let mut bytes = Vec::new();
+    for n in 1..=layout.rows {
+        bytes.extend(row_bytes(layout, n, &plain_row(layout, n)));
+    }
+    if layout.kind == 0 {
+        bytes.extend_from_slice(MARK);
+    }
+    bytes
+}
+
+impl Recording {
+    /// Plain rows, as many as the layout has.
+    pub fn plain(layout: Layout) -> Recording {
+        Recording { layout, rows: (1..=layout.rows).map(|n| plain_row(layout, n)).collect() }
+    }
+
+    /// The file's bytes; a text ends with its mark.
+    pub fn bytes(&self) -> Vec<u8> {
+        let mut bytes = Vec::new();
+        for (n, row) in (1..).zip(&self.rows) {
+            bytes.extend(row_bytes(self.layout, n, row));
+        }
+        if self.layout.kind == 0 {
+            bytes.extend_from_slice(MARK);
+        }
+        bytes
+    }
+
+    /// The rows of a text as lines of fields.
+    pub fn lines(&self) -> Vec<Vec<String>> {
+        (1..).zip(&self.rows).map(|(n, row)| text_fields(n, row)).collect()
+    }
+
+    /// Rows of random numbers that fit the kind; most often they fit the binary kind too.
+    pub fn random(dice: &mut Dice, layout: Layout) -> Recording {
+        let narrow = layout.kind == 1 || dice.below(3) > 0;
+        let sample = |dice: &mut Dice| loop {
+            let sample = match dice.below(3) {
+                0 => dice.pick(&SAMPLES),
+                1 => dice.within(-40, 40),
+                _ => dice.next() as i64 >> if dice.once_in(2) { 32 } else { 48 },
+            };
+            if !narrow || i16::try_from(sample).is_ok() {
+                return sample;
+            }
+        };
+        let mut rows = Vec::new();
+        for _ in 0..layout.rows {
+            let mut row = vec![if dice.once_in(3) { dice.next() >> 32 } else { dice.below(2000) } as i64];
+            row.extend((0..layout.a).map(|_| sample(dice)));
+            row.extend((0..layout.d).map(|_| dice.below(2) as i64));
+            rows.push(row);
+        }
+        Recording { layout, rows }
+    }
+
+    /// The lines of a text spelled otherwise here and there: spaces, zeros, signs.
+    pub fn spelled(&self, dice: &mut Dice) -> Vec<Vec<String>> {
+        let mut lines = self.lines();
+        let samples = 2..2 + self.layout.a as usize;
+        for line in &mut lines {
+            for (k, field) in line.iter_mut().enumerate().take(samples.end) {
+                if dice.below(6) > 0 {
+                    continue;
+                }
+                let number: i64 = field.parse().unwrap_or(0);
+                *field = match dice.below(3) {
+                    0 if samples.contains(&k) && number == 0 => String::from("-0"),
+                    0 if samples.contains(&k) => format!("{number:+}"),
+                    _ => count(dice, number, if k == 0 { 10 } else { 13 }),
+                };
+            }
+        }
+        lines
+    }
+}
+
+/// A text of lines of fields, with an ending.
+pub fn text(lines: &[Vec<String>], ending: &[u8]) -> Vec<u8> {
+    let mut bytes = Vec::new();
+    for line in lines {
+        bytes.extend_from_slice(line.join(",").as_bytes());
+        bytes.extend_from_slice(b"\r\n");
+    }
+    bytes.extend_from_slice(ending);
+    bytes
+}

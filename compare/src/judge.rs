@@ -1,0 +1,284 @@
+//! Runs a case on the library and on the second program, and compares the answers and every byte lent.
+
+use crate::buffer::{bytes_of, Buffer};
+use crate::case::{escaped, Case, Layout, POSSIBLE};
+use crate::lent::{Flush, Lent};
+use crate::library;
+use crate::watch;
+use second::Answer;
+
+/// Bytes of a file above which a change is followed by no more than a length and a check, so that it does not take seconds.
+const LARGE: usize = 1 << 20;
+
+/// What a case must answer, where that is known by itself.
+#[derive(Debug, Clone, Default)]
+pub struct Expected {
+    /// Number, line or row, field, length.
+    pub answer: [u32; 4],
+    /// Places shown: which, counted from 0, and what.
+    pub places: Vec<(usize, i64)>,
+    /// The bytes written.
+    pub bytes: Option<Vec<u8>>,
+}
+
+/// The lent buffers and what stands in them.
+pub struct Judge {
+    input: Lent,
+    output: Lent,
+    before: Buffer,
+    after: Buffer,
+    reasons: Vec<Vec<u8>>,
+    word: u64,
+}
+
+/// What lies in the buffer lent for reading.
+fn input_of(case: &Case) -> &[u8] {
+    match case {
+        Case::Config { cfg, .. } => cfg,
+        Case::Check { file, .. } | Case::Row { file, .. } => file,
+        Case::Length { file, .. } | Case::Change { file, .. } => file,
+        Case::WriteRow { row, .. } => bytes_of(row),
+        Case::Reason { .. } => &[],
+    }
+}
+
+/// The answer spelled.
+fn spelled(answer: Answer) -> String {
+    format!("{} at {},{} length {}", answer.number, answer.at, answer.field, answer.length)
+}
+
+/// Where two buffers first differ, with the bytes of both from there on.
+fn first_difference(found: &[u8], wanted: &[u8]) -> String {
+    let at = found.iter().zip(wanted).position(|(f, w)| f != w).unwrap_or(0);
+    let part = |bytes: &[u8]| escaped(&bytes[at..bytes.len().min(at + 16)]);
+    format!("from byte {at} on: {} instead of {}", part(found), part(wanted))
+}
+
+/// What every answer keeps: a "yes" has no place, a "no" has no length, and its number is one that the call can give.
+fn well_formed(case: &Case, answer: Answer) -> Result<(), String> {
+    let fine = match answer.number {
+        0 => answer.at == 0 && answer.field == 0,
+        number => answer.length == 0 && POSSIBLE[case.call()].contains(&number),
+    };
+    if fine {
+        return Ok(());
+    }
+    Err(format!("both answer {}, which this call can't", spelled(answer)))
+}
+
+/// The text of a reason, from those that the library gave; numbers without a text are 10, and 17 comes last.
+fn reason(texts: &[Vec<u8>], number: u32, out: &mut [u8]) -> Answer {
+    let no = |number| Answer { number, at: 0, field: 0, length: 0 };
+    let text = match texts.get((number as usize).wrapping_sub(1)) {
+        None => return no(10),
+        Some(text) if out.len() < text.len() => return no(17),
+        Some(text) => text,
+    };
+    out[..text.len()].copy_from_slice(text);
+    Answer { number: 0, at: 0, field: 0, length: text.len() as u32 }
+}
+
+impl Judge {
+    /// A judge with the texts of the reasons 1, 2, 3 and so on.
+    pub fn new(reasons: &[Vec<u8>]) -> Judge {
+        Judge {
+            input: Lent::to_read(),
+            output: Lent::to_write(),
+            before: Buffer::default(),
+            after: Buffer::default(),
+            reasons: reasons.to_vec(),
+            word: 0,
+        }
+    }
+
+    /// Asks the second program, which writes into `after`.
+    fn ask_second(&mut self, case: &Case) -> Answer {
+        watch::calling("the second program");
+        let out = &mut self.after;
+        match case {
+            Case::Config { cfg, .. } => second::config(cfg, out.places_mut()),
+            Case::Check { layout: l, file } => second::check(l.a, l.d, l.rows, l.kind, file),
+            Case::Row { layout: l, file, n, .. } => second::row(l.a, l.d, l.rows, l.kind, file, *n, out.places_mut()),
+            Case::WriteRow { layout: l, n, row, .. } => {
+                second::write_row(l.a, l.d, l.rows, l.kind, *n, row, out.bytes_mut())
+            }
+            Case::Length { layout: l, file, new_kind } => second::length(l.a, l.d, l.rows, l.kind, file, *new_kind),
+            Case::Change { layout: l, file, new_kind, .. } => {
+                second::change(l.a, l.d, l.rows, l.kind, file, *new_kind, out.bytes_mut())
+            }
+            Case::Reason { number, .. } => reason(&self.reasons, *number, out.bytes_mut()),
+        }
+    }
+
+    /// Asks the library with its buffers against the guards on one side; what it lent for the answer is then in `output`.
+    fn ask_library(&mut self, case: &Case, flush: Flush) -> Answer {
+        let input = self.input.lend(input_of(case), flush);
+        let output = self.output.lend(self.before.bytes(), flush);
+        watch::calling(match flush {
+            Flush::End => "the library, its buffers' ends before a guard",
+            Flush::Start => "the library, its buffers' starts after a guard",
+        });
+        // SAFETY: both buffers were just lent, as long as the case says.
+        unsafe { library::ask(case, input, output) }
+    }
+
+    /// Compares the two on one case: the answer, or how they differ. What was written is then in `written`.
+    fn compare(&mut self, case: &Case) -> Result<Answer, String> {
+        self.before.fill(case.room(), self.word);
+        self.after.copy(&self.before);
+        let wanted = self.ask_second(case);
+        let reported = if wanted.number == 0 { case.reported(wanted.length) } else { 0 };
+        if self.after.bytes()[reported..] != self.before.bytes()[reported..] {
+            return Err(String::from("the second program changed bytes that it does not report"));
+        }
+        for flush in [Flush::End, Flush::Start] {
+            let found = self.ask_library(case, flush);
+            if found != wanted {
+                return Err(format!("library {}, second {}", spelled(found), spelled(wanted)));
+            }
+            if self.output.bytes() != self.after.bytes() {
+                let place = first_difference(self.output.bytes(), self.after.bytes());
+                return Err(format!("both {}, the library's buffer {place}", spelled(wanted)));
+            }
+            if !self.input.margin_kept() || !self.output.margin_kept() {
+                return Err(format!("both {}, the library wrote beside its buffer", spelled(wanted)));
+            }
+            self.before.turn(0);
+            self.after.turn(reported);
+        }
+        well_formed(case, wanted)?;
+        Ok(wanted)
+    }
+
+    /// The first bytes of what was written for the last case.
+    fn written(&self, length: usize) -> Vec<u8> {
+        self.after.bytes()[..length].to_vec()
+    }
+
+    /// Judges a case with what follows from it: the answer, or what is wrong. The buffers are filled by the word.
+    pub fn judge(&mut self, case: &Case, expected: Option<&Expected>, word: u64) -> Result<Answer, String> {
+        self.word = word;
+        let answer = self.compare(case)?;
+        if let Some(expected) = expected {
+            self.hold(case, answer, expected)?;
+        }
+        match case {
+            Case::Change { layout, file, new_kind, room } => {
+                self.follow_change(*layout, file, *new_kind, *room, answer)?
+            }
+            Case::WriteRow { layout, n, row, .. } => self.follow_written(*layout, *n, row, answer)?,
+            _ => (),
+        }
+        Ok(answer)
+    }
+
+    /// Holds the answer to what it must be.
+    fn hold(&mut self, case: &Case, answer: Answer, expected: &Expected) -> Result<(), String> {
+        let [number, at, field, length] = expected.answer;
+        let wanted = Answer { number, at, field, length };
+        if answer != wanted {
+            return Err(format!("both {}, expected {}", spelled(answer), spelled(wanted)));
+        }
+        if let Some(bytes) = &expected.bytes {
+            if self.written(answer.length as usize) != *bytes {
+                return Err(format!("both wrote {}, expected {}", escaped(self.after.bytes()), escaped(bytes)));
+            }
+        }
+        let shown = if case.shows_places() { self.after.places_mut() } else { &mut [] };
+        for &(place, wanted) in &expected.places {
+            if shown.get(place) != Some(&wanted) {
+                return Err(format!("place {place} is {:?}, expected {wanted}", shown.get(place)));
+            }
+        }
+        Ok(())
+    }
+
+    /// A case that follows from another must be answered "yes".
+    fn yes(&mut self, case: &Case) -> Result<Answer, String> {
+        let answer = self.compare(case).map_err(|what| format!("then {case}: {what}"))?;
+        if answer.number != 0 {
+            return Err(format!("then {case}: {}", spelled(answer)));
+        }
+        Ok(answer)
+    }
+
+    /// Row n of a file.
+    fn row(&mut self, layout: Layout, file: &[u8], n: u32) -> Result<Vec<i64>, String> {
+        let places = layout.places();
+        self.yes(&Case::Row { layout, file: file.to_vec(), n, places })?;
+        Ok(self.after.places_mut().to_vec())
+    }
+
+    /// The length question answers as the change does but for 17; a changed file passes its check, has the same rows, and changes back.
+    fn follow_change(&mut self, old: Layout, file: &[u8], kind: u32, room: usize, found: Answer) -> Result<(), String> {
+        let changed = self.written(if found.number == 0 { found.length as usize } else { 0 });
+        let length = self.compare(&Case::Length { layout: old, file: file.to_vec(), new_kind: kind })?;
+        let agree =
+            if found.number == 17 { length.number == 0 && length.length as usize > room } else { length == found };
+        if !agree {
+            return Err(format!("change {}, length {}", spelled(found), spelled(length)));
+        }
+        if found.number != 0 {
+            return Ok(());
+        }
+        let new = old.of_kind(kind);
+        self.yes(&Case::Check { layout: new, file: changed.clone() })?;
+        if file.len() > LARGE {
+            return Ok(());
+        }
+        for n in [1, old.rows] {
+            if self.row(old, file, n)? != self.row(new, &changed, n)? {
+                return Err(format!("row {n} is another after the change"));
+            }
+        }
+        self.follow_back(old, file, new, changed)
+    }
+
+    /// Changed back, a file of a binary kind is what it was, and a text its own plain form.
+    fn follow_back(&mut self, old: Layout, file: &[u8], new: Layout, changed: Vec<u8>) -> Result<(), String> {
+        let mut was = file.to_vec();
+        if old.kind == 0 {
+            let room = self.yes(&Case::Length { layout: old, file: file.to_vec(), new_kind: 0 })?.length as usize;
+            self.yes(&Case::Change { layout: old, file: was, new_kind: 0, room })?;
+            was = self.written(room);
+        }
+        let room = was.len();
+        self.yes(&Case::Change { layout: new, file: changed, new_kind: old.kind, room })?;
+        if self.written(room) != was {
+            return Err(String::from("changed back, the file is another"));
+        }
+        Ok(())
+    }
+
+    /// A first row as it was written is a file of one row, and shows what was given.
+    fn follow_written(&mut self, layout: Layout, n: u32, row: &[i64], answer: Answer) -> Result<(), String> {
+        if answer.number != 0 || n != 1 {
+            return Ok(());
+        }
+        let file = self.written(answer.length as usize);
+        if self.row(Layout { rows: 1, ..layout }, &file, 1)? != row[..layout.places()] {
+            return Err(String::from("the written row shows another"));
+        }
+        Ok(())
+    }
+}
+
+/// The library's texts of the reasons 1 to 17: not empty, of the bytes 32 to 126, no two alike.
+pub fn reasons() -> Result<Vec<Vec<u8>>, String> {
+    let mut texts: Vec<Vec<u8>> = Vec::new();
+    let mut judge = Judge::new(&[]);
+    for number in 1..=17 {
+        let case = Case::Reason { number, room: 4096 };
+        judge.before.fill(case.room(), 0);
+        let answer = judge.ask_library(&case, Flush::End);
+        if answer.number != 0 {
+            return Err(format!("{case}: {}", spelled(answer)));
+        }
+        let text = judge.output.bytes().get(..answer.length as usize).unwrap_or(&[]).to_vec();
+        if text.is_empty() || !text.iter().all(|byte| (32..=126).contains(byte)) || texts.contains(&text) {
+            return Err(format!("{case}: the text is {}", escaped(&text)));
+        }
+        texts.push(text);
+    }
+    Ok(texts)
+}

@@ -1,0 +1,68 @@
+-- Laws of what the exported calls show and write.
+--     config-places, row-places     how many places a configuration, and a row, has
+--     shown-sized                   a row is shown of a layout within the sizes alone
+--     written-few                   a row that is written is short
+-- Assumes nothing.
+use mathlib.Core.Path.{_≡_, refl, sym, _∙_}
+use mathlib.Core.Bool.{true, false}
+use mathlib.Core.List.{List}
+use Prim.Native.Nat.{ℕ, _<_, _≤_, _^_}
+use native.Mathlib.Omega.{arith}
+use lib.IntN.{ℤ, pos}
+use lib.ListN.{length, getD, length-append}
+use Rattle.lists.specs.Tables.{tab}
+use Rattle.lists.proofs.Tables.{length-tab}
+use Rattle.lists.proofs.Cases.{on-test}
+use Rattle.model.specs.declared.Answer.the-variants as answer
+use Rattle.model.specs.declared.Kind.the-variants.{Ascii}
+use Rattle.model.specs.declared.Layout.{Layout}
+use Rattle.model.specs.declared.Row.{Row}
+use Rattle.model.specs.Kinds.{fitsKind}
+use Rattle.model.specs.Layouts.{isSized, Sized}
+use Rattle.model.proofs.LayoutLaws.{sized}
+use Rattle.model.proofs.FitLaws.{misfit-all}
+use Rattle.config.specs.declared.Config.{Config}
+use Rattle.binary.specs.Rows.{rowSize}
+use Rattle.binary.proofs.SizeLaws.{size-le}
+use Rattle.plain.specs.Rows.{textLength}
+use Rattle.plain.proofs.LengthLaws.{text-line, line-most}
+use Rattle.data.specs.declared.Written.{Written}
+use Rattle.data.specs.declared.Written.the-variants as written
+use Rattle.data.specs.Files.{showRow, lengthOf, misfitOf, writeAnswer}
+use Rattle.data.proofs.Laws.{text-kind, binary-kind, writable}
+use Rattle.data.proofs.FileLaws.{by-kind}
+use Rattle.change.specs.Change.{FewWritten}
+use Rattle.places.specs.Rows.{placesOf, statusPlace, rowPlaces}
+use Rattle.places.specs.Configs.{configPlaces}
+
+pub config-places : (c : Config) → length (configPlaces c) ≡ 34
+unfolding configPlaces
+config-places c = refl
+
+pub row-places : (l : Layout) (r : Row) → length (rowPlaces l r) ≡ placesOf l
+unfolding rowPlaces
+row-places l r =
+    let z : ℕ → ℤ = λ i. getD (r .samples) i (pos 0) in
+    let s : ℕ → ℤ = λ i. statusPlace (getD (r .statuses) i false) in
+    omega (arith, length-append (tab z (l .analogs)) (tab s (l .statuses)), length-tab z (l .analogs), length-tab s (l .statuses))
+
+pub shown-sized : (l : Layout) (s : List ℕ) (n : ℕ) → showRow l s n .answer ≡ answer.Yes → Sized l
+unfolding showRow
+shown-sized l s n e = sized l (on-test (isSized l) (λ t. t) (λ t. let q = rw t at e in cc))
+
+-- a row of text is short where its samples fit and its time is one of 32 bits
+text-short : (l : Layout) (n : ℕ) (r : Row) → Sized l → l .kind ≡ Ascii → misfitOf l r ≡ l .analogs → n < 2 ^ 32 → r .time < 2 ^ 32
+    → textLength l n r ≤ 2048
+unfolding misfitOf
+text-short l n r fit k all hn ht =
+    let each : (i : ℕ) → i < l .analogs → fitsKind Ascii (getD (r .samples) i (pos 0)) ≡ true = λ i h. rw k at (misfit-all (l .kind) (r .samples) (l .analogs) all i h) in
+    omega (arith, text-line l n r, line-most l n r fit hn ht each)
+
+pub written-few : (l : Layout) (n : ℕ) (r : Row) (room : ℕ) (w : Written) → n < 2 ^ 32 → r .time < 2 ^ 32 → w ≡ writeAnswer l n r room → FewWritten w
+unfolding lengthOf
+written-few l n r room (written.No q) hn ht e = tt
+written-few l n r room (written.Bytes m) hn ht e =
+    let y = writable l n r room m (sym e) in
+    by-kind (l .kind)
+    (λ k. let q : m ≡ textLength l n r = y .size ∙ text-kind (l .kind) (textLength l n r) (rowSize l) k in omega (arith, text-short l n r (y .fit) k (y .all) hn ht))
+    (λ k. let q : m ≡ rowSize l = y .size ∙ binary-kind (l .kind) (textLength l n r) (rowSize l) k in omega (arith, size-le l (y .fit)))

@@ -1,0 +1,50 @@
+-- `zagalume::show_config` meets its contract: 34 places are filled where there is room for them.
+use Rattle.zagalume.proofs.CallLaws.{config-places}
+use borrow.Author.Tests.{le-leb, lt-leb}
+use lib.ListN.{length}
+use lib.Seq.{length-take-le}
+use mathlib.Core.Path.{sym}
+use borrow.Author.Needs.{needs}
+use Rattle.zagalume.proofs.show_config.Statement.{statement}
+use Rattle.zagalume.proofs.show_config.Tie as tie
+
+refused-requires : tie.Need-refused-requires
+refused-requires c κs = search needs
+
+no-requires : tie.Need-no-requires
+no-requires c κs = search needs
+
+returns : tie.Need-returns
+returns c = (rw (c .no .ensures, c .before .refused .ensures, lt-leb 34 (length (c .before .before .before .args .shown .now)) (c .before .before .if1 .taken)), rw (lt-leb 34 (length (c .before .before .before .args .shown .now)) (c .before .before .if1 .taken)))
+
+slice-relend-prefix-put-config : tie.Need-slice-relend-prefix-put-config
+slice-relend-prefix-put-config c = search needs
+
+slice-aggregate-put-config : tie.Need-slice-aggregate-put-config
+slice-aggregate-put-config c = sym (length-take-le 34 (c .before .before .args .shown .now) (c .before .if1 .left))
+
+put-config-requires : tie.Need-put-config-requires
+put-config-requires c κs = length-take-le 34 (c .before .before .args .shown .now) (c .before .if1 .left)
+
+yes-requires : tie.Need-yes-requires
+yes-requires c κs = search needs
+
+same-length : tie.Need-same-length
+same-length c = search needs
+
+returns-2 : tie.Need-returns-2
+returns-2 c = (rw (c .yes .ensures, le-leb 34 (length (c .before .before .before .before .before .args .shown .now)) (c .before .before .before .before .if1 .left)), rw (le-leb 34 (length (c .before .before .before .before .before .args .shown .now)) (c .before .before .before .before .if1 .left), c .before .before .put-config .ensures, config-places (c .before .before .before .before .before .args .config)))
+
+pub show-config-spec : {M : Type 1} → statement M
+show-config-spec =
+    tie.close
+    (tie.spec
+    refused-requires
+    no-requires
+    returns
+    slice-relend-prefix-put-config
+    slice-aggregate-put-config
+    put-config-requires
+    yes-requires
+    same-length
+    returns-2)

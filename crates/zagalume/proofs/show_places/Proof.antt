@@ -1,0 +1,56 @@
+-- `zagalume::show_places` meets its contract: the places of the row are filled where there is room for them.
+use Rattle.zagalume.proofs.CallLaws.{row-places}
+use Rattle.places.specs.Rows.{placesOf}
+use borrow.Author.Tests.{le-leb, lt-leb}
+use lib.ListN.{length}
+use lib.Seq.{length-take-le}
+use mathlib.Core.Path.{sym, _∙_}
+use Prim.Native.Nat.{_≤_, _<_}
+use borrow.Author.Needs.{needs}
+use Rattle.zagalume.proofs.show_places.Statement.{statement}
+use Rattle.zagalume.proofs.show_places.Tie as tie
+
+places-of-requires : tie.Need-places-of-requires
+places-of-requires c κs = search needs
+
+refused-requires : tie.Need-refused-requires
+refused-requires c κs = search needs
+
+no-requires : tie.Need-no-requires
+no-requires c κs = search needs
+
+returns : tie.Need-returns
+returns c = let f : length (c .before .before .before .before .args .shown .now) < placesOf (c .before .before .before .before .args .layout) = rw (c .before .before .before .places-of .ensures) at (c .before .before .if1 .taken) in (rw (c .no .ensures, c .before .refused .ensures, lt-leb (placesOf (c .before .before .before .before .args .layout)) (length (c .before .before .before .before .args .shown .now)) f), rw (lt-leb (placesOf (c .before .before .before .before .args .layout)) (length (c .before .before .before .before .args .shown .now)) f))
+
+slice-relend-prefix-put-row : tie.Need-slice-relend-prefix-put-row
+slice-relend-prefix-put-row c = search needs
+
+slice-aggregate-put-row : tie.Need-slice-aggregate-put-row
+slice-aggregate-put-row c = sym (length-take-le (c .before .before .places-of .result) (c .before .before .before .args .shown .now) (c .before .if1 .left))
+
+put-row-requires : tie.Need-put-row-requires
+put-row-requires c κs = (c .before .before .before .pre, length-take-le (c .before .before .places-of .result) (c .before .before .before .args .shown .now) (c .before .if1 .left) ∙ c .before .before .places-of .ensures)
+
+yes-requires : tie.Need-yes-requires
+yes-requires c κs = search needs
+
+same-length : tie.Need-same-length
+same-length c = search needs
+
+returns-2 : tie.Need-returns-2
+returns-2 c = let f : placesOf (c .before .before .before .before .before .before .args .layout) ≤ length (c .before .before .before .before .before .before .args .shown .now) = rw (c .before .before .before .before .before .places-of .ensures) at (c .before .before .before .before .if1 .left) in (rw (c .yes .ensures, le-leb (placesOf (c .before .before .before .before .before .before .args .layout)) (length (c .before .before .before .before .before .before .args .shown .now)) f), rw (le-leb (placesOf (c .before .before .before .before .before .before .args .layout)) (length (c .before .before .before .before .before .before .args .shown .now)) f, c .before .before .put-row .ensures, row-places (c .before .before .before .before .before .before .args .layout) (c .before .before .before .before .before .before .args .row), c .before .before .before .before .before .places-of .ensures))
+
+pub show-places-spec : {M : Type 1} → statement M
+show-places-spec =
+    tie.close
+    (tie.spec
+    places-of-requires
+    refused-requires
+    no-requires
+    returns
+    slice-relend-prefix-put-row
+    slice-aggregate-put-row
+    put-row-requires
+    yes-requires
+    same-length
+    returns-2)

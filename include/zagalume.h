@@ -1,0 +1,197 @@
+/*
+ * zagalume.h: a proved loader of COMTRADE recordings (IEC 60255-24:2013; data files of the kinds ASCII, binary and binary32).
+ *
+ * Every call is answered, whatever its numbers and whatever the lent bytes hold; there is no error but a refusal.
+ * A call returns its answer by value: yes, or no with the number of the rule that was broken and its place.
+ * "No" changes no lent byte. "Yes" changes only the places or bytes that it reports.
+ *
+ * What the caller owes, since nothing here can test it:
+ *   - A pointer is valid for its whole length, and aligned for its type: readable where it is const, else writable.
+ *     A length counts bytes of a uint8_t pointer and places of an int64_t pointer. Where the length is 0, nothing is
+ *     read or written through the pointer, which may then be null.
+ *   - What a call may write overlaps nothing else that is lent to the same call.
+ *   - Nothing else writes to what is lent until the call returns: no other thread, and where it is a mapped file no
+ *     other process either, nor does one shorten that file.
+ * No call allocates, keeps anything between calls, reads a clock or touches a file: all are reentrant, and threads may
+ * call at the same time as long as what one writes is lent to no other.
+ *
+ * Stack that a call uses, in bytes, its caller's frame included, on the largest layout (A = 96, D = 256) of every kind,
+ * as tools/stack measures it:
+ *
+ *                     x86-64      aarch64
+ *     zl_config          1024         896
+ *     zl_check            288         208
+ *     zl_row             3328        2832
+ *     zl_write_row       2576        2544
+ *     zl_length          1584        1472
+ *     zl_change          3760        2976
+ *     zl_reason            48           0
+ */
+#ifndef ZAGALUME_H
+#define ZAGALUME_H
+
+#include <stddef.h>
+#include <stdint.h>
+
+#ifdef __cplusplus
+extern "C" {
+#endif
+
+/* The answer of every call. */
+typedef struct zl_answer {
+    uint32_t number; /* 0 for yes; for no the refusal's number */
+    uint32_t at;     /* on no the line of the configuration or the row of the data file, from 1; 0 for the whole file */
+    uint32_t field;  /* on no the field, from 1; 0 for the whole line or row */
+    uint32_t length; /* on yes the length in bytes, where the call has one; else 0 */
+} zl_answer;
+
+/* The kinds of data file. Any other number is refused with ZL_REFUSED_LAYOUT. */
+enum {
+    ZL_ASCII = 0,
+    ZL_BINARY = 1,
+    ZL_BINARY32 = 2
+};
+
+/*
+ * The number of an answer, with the place of the refusal: line and field of the configuration for 1 to 9, row and field
+ * of the data file for 11 to 16. In a row the number is field 1, the timestamp field 2, the samples begin at field 3 and
+ * the statuses follow them. Only the first refusal is given. docs/REFUSALS.md has the usual causes and how to mend a file.
+ */
+enum {
+    ZL_YES = 0,
+    ZL_REFUSED_CONFIG_SIZE = 1,   /* the configuration has more than 65,536 bytes; 0, 0 */
+    ZL_REFUSED_EARLY_END = 2,     /* the configuration ends before or inside a line; line, 0 */
+    ZL_REFUSED_BYTE = 3,          /* a byte outside 32 to 126 before the line's end; line, 0 */
+    ZL_REFUSED_FIELD_COUNT = 4,   /* wrong number of fields; line, 0 */
+    ZL_REFUSED_FORM = 5,          /* a field's length or form; line, field */
+    ZL_REFUSED_VALUE = 6,         /* a field's number, date, kind or code is not allowed; line, field */
+    ZL_REFUSED_AGREEMENT = 7,     /* TT is not A + D (at D); a wrong index; a last row that does not rise; max below min
+                                     (at max); line, field */
+    ZL_REFUSED_YEAR = 8,          /* a year of four digits that is not 2013; line, field */
+    ZL_REFUSED_BYTES_AFTER = 9,   /* bytes after the last line; the line after it, 0 */
+    ZL_REFUSED_LAYOUT = 10,       /* the layout is out of the sizes, or there is no such kind, the new kind of a change
+                                     too; a row to write has too few places; no such refusal; 0, 0 */
+    ZL_REFUSED_FILE_LENGTH = 11,  /* wrong length of the data file; binary kinds 0, 0; ASCII row, 0 */
+    ZL_REFUSED_ROW_NUMBER = 12,   /* a row's number is not the row's; row, 1 */
+    ZL_REFUSED_PADDING = 13,      /* a padding bit is set; row, 0 */
+    ZL_REFUSED_TEXT_ROW = 14,     /* a row or a field of a text is bad; row, field, or row, 0 for the whole row */
+    ZL_REFUSED_NO_SUCH_ROW = 15,  /* there is no such row; 0, 0 */
+    ZL_REFUSED_MISFIT = 16,       /* a sample does not fit the kind that is written, or a time or status of a lent row its
+                                     field; row, field */
+    ZL_REFUSED_NO_ROOM = 17       /* what is lent to be written is too short; 0, 0 */
+};
+
+/* The sizes of the house. */
+enum {
+    ZL_MOST_CONFIG_BYTES = 65536,
+    ZL_MOST_ANALOGS = 96,     /* A, analog channels, from 0 */
+    ZL_MOST_STATUSES = 256,   /* D, status channels, from 0; A + D is at least 1 */
+    ZL_MOST_RATES = 8,        /* sampling rates, from 0 */
+    ZL_MOST_ROWS = 1000000,   /* rows, from 1 */
+    ZL_CONFIG_PLACES = 34,    /* what zl_config shows */
+    ZL_MOST_ROW_PLACES = 353, /* what zl_row shows of the largest layout: 1 + 96 + 256 */
+    ZL_MOST_ROW_BYTES = 1882, /* room for any row, CR LF included */
+    ZL_MOST_REASON_BYTES = 256 /* room for the meaning of any refusal */
+};
+
+/* The places of what zl_config shows. A date and time takes ZL_MOMENT_PLACES, of which the ZL_MOMENT_ names are offsets. */
+enum {
+    ZL_SHOWN_ANALOGS = 0,             /* A */
+    ZL_SHOWN_STATUSES = 1,            /* D */
+    ZL_SHOWN_RATES = 2,               /* number of sampling rates, 0 to 8 */
+    ZL_SHOWN_ROWS = 3,
+    ZL_SHOWN_LAST_ROWS = 4,           /* ZL_MOST_RATES places, 0 where there is none; with 0 rates there is one */
+    ZL_SHOWN_FIRST_SAMPLE = 12,       /* date and time of the first sample */
+    ZL_SHOWN_TRIGGER = 19,            /* date and time of the trigger */
+    ZL_SHOWN_PRE_TRIGGER_SECONDS = 26, /* trigger minus first sample: whole seconds, rounded down, */
+    ZL_SHOWN_PRE_TRIGGER_NANOSECONDS = 27, /* and 0 to 999,999,999 nanoseconds */
+    ZL_SHOWN_KIND = 28,               /* ZL_ASCII, ZL_BINARY or ZL_BINARY32 */
+    ZL_SHOWN_TIME_CODE = 29,          /* signed minutes */
+    ZL_SHOWN_LOCAL_IS_X = 30,         /* 1 where the local code is x, else 0 */
+    ZL_SHOWN_LOCAL_CODE = 31,         /* signed minutes, 0 where it is x */
+    ZL_SHOWN_QUALITY = 32,            /* the value of the hex digit: 0 to 11, or 15 */
+    ZL_SHOWN_LEAP_CODE = 33           /* 0 to 3 */
+};
+enum {
+    ZL_MOMENT_YEAR = 0,
+    ZL_MOMENT_MONTH = 1,
+    ZL_MOMENT_DAY = 2,
+    ZL_MOMENT_HOUR = 3,
+    ZL_MOMENT_MINUTE = 4,
+    ZL_MOMENT_SECOND = 5,
+    ZL_MOMENT_NANOSECOND = 6,
+    ZL_MOMENT_PLACES = 7
+};
+
+/* The places of a row, as zl_row shows it and zl_write_row takes it: the time, then A samples, then D statuses (0 or 1). */
+enum {
+    ZL_ROW_TIME = 0,
+    ZL_ROW_SAMPLES = 1 /* the statuses begin at ZL_ROW_SAMPLES + A */
+};
+
+/*
+ * Reads a configuration and shows it.
+ *   Yes:    ZL_CONFIG_PLACES places of shown are written; length is 0.
+ *   No:     1; then line by line, in a line the first of 2 and 3 that is met, then 4, then the fields from the left, in
+ *           each 5, 6, 8, 7; then 9; last of all 17, where shown has fewer than ZL_CONFIG_PLACES places.
+ */
+zl_answer zl_config(const uint8_t *cfg, size_t cfg_length, int64_t *shown, size_t shown_length);
+
+/*
+ * Checks a data file against its layout: a analog and d status channels, the number of rows, and the kind.
+ *   Yes:    nothing is written; length is 0.
+ *   No:     10; then the file. Binary kinds: 11, then row by row 12, 13. ASCII: row by row, in a row the first of 11 and
+ *           14 that its scan up to CR LF meets, then 14 for the number of fields, then the fields from the left, in field 1
+ *           14 and then 12, in the others 14; then 11 at row rows + 1 for what follows the last row.
+ */
+zl_answer zl_check(uint32_t a, uint32_t d, uint32_t rows, uint32_t kind, const uint8_t *data, size_t data_length);
+
+/*
+ * Shows row n, counted from 1, of a data file that is fine as a whole: each call checks the whole file.
+ *   Yes:    1 + a + d places of shown are written, the time, the samples and the statuses; length is 0.
+ *   No:     10; 15; then the file, as zl_check; last of all 17, where shown has fewer places.
+ */
+zl_answer zl_row(uint32_t a, uint32_t d, uint32_t rows, uint32_t kind, const uint8_t *data, size_t data_length, uint32_t n,
+                 int64_t *shown, size_t shown_length);
+
+/*
+ * Writes a row, in the places of zl_row, as row n of a data file of that layout. No end mark is added. Places of the row
+ * past 1 + a + d are not read.
+ *   Yes:    length bytes of out are written; a row of the binary kinds has 8 + w a + 2 ((d + 15) / 16) of them, w being 2
+ *           for binary and 4 for binary32; a row of ASCII is in the plain form, with its CR LF.
+ *   No:     10, also where the row has fewer than 1 + a + d places; 15; 16 at row n and the first field from the left that
+ *           does not fit: a time outside 32 bits unsigned, a sample outside the kind's range, a status that is not 0 or 1;
+ *           17, where out is too short.
+ */
+zl_answer zl_write_row(uint32_t a, uint32_t d, uint32_t rows, uint32_t kind, uint32_t n, const int64_t *row,
+                       size_t row_length, uint8_t *out, size_t out_length);
+
+/*
+ * How many bytes the data file has once it is changed to new_kind.
+ *   Yes:    length is that number; nothing is written.
+ *   No:     as zl_change, but never 17.
+ */
+zl_answer zl_length(uint32_t a, uint32_t d, uint32_t rows, uint32_t kind, const uint8_t *data, size_t data_length,
+                    uint32_t new_kind);
+
+/*
+ * Changes a data file from its kind to new_kind, which may be the same: a text then comes out in its plain form.
+ *   Yes:    length bytes of out are written, the new file; a text ends with the end mark, 1A 0D 0A hex.
+ *   No:     10, of the layout and of new_kind; then the file, as zl_check; 16 at the first row and field whose sample does
+ *           not fit new_kind; last of all 17, where out is too short.
+ */
+zl_answer zl_change(uint32_t a, uint32_t d, uint32_t rows, uint32_t kind, const uint8_t *data, size_t data_length,
+                    uint32_t new_kind, uint8_t *out, size_t out_length);
+
+/*
+ * The meaning of a refusal's number, as text to show: characters 32 to 126, with no 0 at the end.
+ *   Yes:    length bytes of out are written.
+ *   No:     10 for a number that has no meaning (0 too); 17, where out is too short.
+ */
+zl_answer zl_reason(uint32_t number, uint8_t *out, size_t out_length);
+
+#ifdef __cplusplus
+}
+#endif
+
+#endif

@@ -1,0 +1,142 @@
+/* Calls every function of zagalume.h, as C and as C++: what is answered, and that nothing changes but what an answer reports.
+ * One recording, A = 1, D = 1, two rows. Prints what differs and then how many answers were held. */
+#include "zagalume.h"
+
+#include <stdio.h>
+#include <string.h>
+
+static const char configuration[] = "Bench 2,R7,2013\r\n2,1A,1D\r\n1,Ia,A,,A,0.5,0,0,-2048,2047,400,1,S\r\n1,Trip,,,0\r\n50\r\n1\r\n1000,2\r\n"
+                                    "03/02/2024,09:15:00.000000\r\n03/02/2024,09:15:00.001000\r\nASCII\r\n1\r\n0,0\r\n0,3\r\n";
+static const char text_file[] = "1,0,-3,0\r\n2,1000,300,1\r\n\x1A\r\n";
+static const uint8_t binary_file[] = {1, 0, 0, 0, 0, 0, 0, 0, 0xFD, 0xFF, 0, 0, 2, 0, 0, 0, 0xE8, 3, 0, 0, 0x2C, 1, 1, 0};
+
+enum { BYTES = 300, PLACES = 40, TEXT_LENGTH = sizeof text_file - 1 };
+
+/* What is lent to be written: filled before each call. */
+static uint8_t out[BYTES];
+static int64_t shown[PLACES];
+static int held = 0, differ = 0;
+
+static void fill(void)
+{
+    memset(out, 7, sizeof out);
+    for (int k = 0; k < PLACES; k++)
+        shown[k] = 7;
+}
+
+/* Whether the bytes and places from these on are as they were filled. */
+static int untouched(size_t byte, size_t place)
+{
+    while (byte < BYTES && out[byte] == 7)
+        byte++;
+    while (place < PLACES && shown[place] == 7)
+        place++;
+    return byte == BYTES && place == PLACES;
+}
+
+static void judge(const char *what, int right)
+{
+    held++;
+    if (!right) {
+        differ++;
+        printf("%s differs\n", what);
+    }
+    fill();
+}
+
+static void judge_no(const char *what, zl_answer answer, uint32_t number, uint32_t at, uint32_t field)
+{
+    int told = answer.number == number && answer.at == at && answer.field == field && answer.length == 0;
+    judge(what, told && untouched(0, 0));
+}
+
+/* A yes that wrote these bytes, or none, and so many places. */
+static void judge_yes(const char *what, zl_answer answer, const void *bytes, uint32_t length, size_t places)
+{
+    int told = answer.number == ZL_YES && answer.at == 0 && answer.field == 0 && answer.length == length;
+    int wrote = bytes == NULL || memcmp(out, bytes, length) == 0;
+    judge(what, told && wrote && untouched(bytes == NULL ? 0 : length, places));
+}
+
+static const uint8_t *bytes_of(const char *text)
+{
+    return (const uint8_t *)text;
+}
+
+static void configurations(void)
+{
+    const uint8_t *cfg = bytes_of(configuration);
+    size_t length = sizeof configuration - 1;
+    zl_answer answer = zl_config(cfg, length, shown, PLACES);
+    int first = shown[ZL_SHOWN_FIRST_SAMPLE + ZL_MOMENT_YEAR] == 2024 && shown[ZL_SHOWN_FIRST_SAMPLE + ZL_MOMENT_DAY] == 3;
+    int trigger = shown[ZL_SHOWN_TRIGGER + ZL_MOMENT_HOUR] == 9 && shown[ZL_SHOWN_TRIGGER + ZL_MOMENT_NANOSECOND] == 1000000;
+    int counts = shown[ZL_SHOWN_ANALOGS] == 1 && shown[ZL_SHOWN_ROWS] == 2 && shown[ZL_SHOWN_LAST_ROWS] == 2;
+    int rest = shown[ZL_SHOWN_PRE_TRIGGER_NANOSECONDS] == 1000000 && shown[ZL_SHOWN_LEAP_CODE] == 3;
+    judge("what a configuration shows", first && trigger && counts && rest && shown[ZL_SHOWN_KIND] == ZL_ASCII && untouched(0, ZL_CONFIG_PLACES));
+    judge_yes("a configuration", answer, NULL, 0, 0);
+    judge_no("no configuration", zl_config(NULL, 0, NULL, 0), ZL_REFUSED_EARLY_END, 1, 0);
+    judge_no("a configuration cut short", zl_config(cfg, length - 5, shown, PLACES), ZL_REFUSED_EARLY_END, 13, 0);
+    judge_no("a place too few", zl_config(cfg, length, shown, ZL_CONFIG_PLACES - 1), ZL_REFUSED_NO_ROOM, 0, 0);
+}
+
+static void rows(void)
+{
+    const uint8_t *text = bytes_of(text_file);
+    static const int64_t row[] = {1000, 300, 1}, misfit[] = {0, 40000, 2};
+    zl_answer answer = zl_row(1, 1, 2, ZL_ASCII, text, TEXT_LENGTH, 2, shown, PLACES);
+    int right = shown[ZL_ROW_TIME] == 1000 && shown[ZL_ROW_SAMPLES] == 300 && shown[ZL_ROW_SAMPLES + 1] == 1;
+    judge("what row 2 shows", right && untouched(0, 3));
+    judge_yes("row 2", answer, NULL, 0, 0);
+    judge_no("row 3", zl_row(1, 1, 2, ZL_ASCII, NULL, 0, 3, NULL, 0), ZL_REFUSED_NO_SUCH_ROW, 0, 0);
+    judge_no("row 1 of nothing", zl_row(1, 1, 2, ZL_ASCII, NULL, 0, 1, NULL, 0), ZL_REFUSED_FILE_LENGTH, 1, 0);
+    judge_no("no places", zl_row(1, 1, 2, ZL_ASCII, text, TEXT_LENGTH, 1, NULL, 0), ZL_REFUSED_NO_ROOM, 0, 0);
+    judge_yes("row 2 as text", zl_write_row(1, 1, 2, ZL_ASCII, 2, row, 3, out, BYTES), text_file + 10, 14, 0);
+    judge_yes("row 2 as binary", zl_write_row(1, 1, 2, ZL_BINARY, 2, row, 3, out, 12), binary_file + 12, 12, 0);
+    judge_no("a row of two places", zl_write_row(1, 1, 2, ZL_BINARY, 3, row, 2, out, BYTES), ZL_REFUSED_LAYOUT, 0, 0);
+    judge_no("a row of none", zl_write_row(1, 1, 2, ZL_BINARY, 1, NULL, 0, NULL, 0), ZL_REFUSED_LAYOUT, 0, 0);
+    judge_no("row 0 written", zl_write_row(1, 1, 2, ZL_BINARY, 0, misfit, 3, NULL, 0), ZL_REFUSED_NO_SUCH_ROW, 0, 0);
+    judge_no("a misfit", zl_write_row(1, 1, 2, ZL_BINARY, 2, misfit, 3, NULL, 0), ZL_REFUSED_MISFIT, 2, 3);
+    judge_no("a status of 2", zl_write_row(1, 1, 2, ZL_BINARY32, 2, misfit, 3, NULL, 0), ZL_REFUSED_MISFIT, 2, 4);
+    judge_no("a byte too few", zl_write_row(1, 1, 2, ZL_BINARY, 2, row, 3, out, 11), ZL_REFUSED_NO_ROOM, 0, 0);
+}
+
+static void files(void)
+{
+    const uint8_t *text = bytes_of(text_file), *binary = binary_file;
+    judge_yes("a text", zl_check(1, 1, 2, ZL_ASCII, text, TEXT_LENGTH), NULL, 0, 0);
+    judge_no("the text as binary", zl_check(1, 1, 2, ZL_BINARY, text, TEXT_LENGTH), ZL_REFUSED_FILE_LENGTH, 0, 0);
+    judge_no("no such kind", zl_check(1, 1, 2, 3, NULL, 0), ZL_REFUSED_LAYOUT, 0, 0);
+    judge_no("no channels", zl_check(0, 0, 2, ZL_ASCII, NULL, 0), ZL_REFUSED_LAYOUT, 0, 0);
+    judge_no("channels that wrap", zl_check(UINT32_MAX, 2, 2, ZL_ASCII, NULL, 0), ZL_REFUSED_LAYOUT, 0, 0);
+    judge_yes("the length", zl_length(1, 1, 2, ZL_ASCII, text, TEXT_LENGTH, ZL_BINARY), NULL, 24, 0);
+    judge_no("the length of nothing", zl_length(1, 1, 2, ZL_ASCII, NULL, 0, ZL_BINARY), ZL_REFUSED_FILE_LENGTH, 1, 0);
+    judge_no("no such new kind", zl_length(1, 1, 2, ZL_ASCII, NULL, 0, 3), ZL_REFUSED_LAYOUT, 0, 0);
+    judge_yes("text to binary", zl_change(1, 1, 2, ZL_ASCII, text, TEXT_LENGTH, ZL_BINARY, out, BYTES), binary_file, 24, 0);
+    judge_yes("binary to text", zl_change(1, 1, 2, ZL_BINARY, binary, 24, ZL_ASCII, out, 27), text_file, 27, 0);
+    judge_no("no room", zl_change(1, 1, 2, ZL_BINARY, binary, 24, ZL_ASCII, NULL, 0), ZL_REFUSED_NO_ROOM, 0, 0);
+    judge_no("a change of nothing", zl_change(1, 1, 2, ZL_BINARY, NULL, 0, ZL_ASCII, NULL, 0), ZL_REFUSED_FILE_LENGTH, 0, 0);
+    judge_no("a change to no kind", zl_change(1, 1, 2, ZL_BINARY, binary, 24, 3, out, BYTES), ZL_REFUSED_LAYOUT, 0, 0);
+}
+
+static void reasons(void)
+{
+    for (uint32_t number = 0; number <= 18; number++) {
+        zl_answer answer = zl_reason(number, out, ZL_MOST_REASON_BYTES);
+        if (number == 0 || number == 18)
+            judge_no("a number with no meaning", answer, ZL_REFUSED_LAYOUT, 0, 0);
+        else
+            judge("a meaning", answer.number == ZL_YES && answer.length > 0 && untouched(answer.length, 0));
+    }
+    judge_no("a meaning with no room", zl_reason(ZL_REFUSED_NO_ROOM, NULL, 0), ZL_REFUSED_NO_ROOM, 0, 0);
+}
+
+int main(void)
+{
+    fill();
+    configurations();
+    rows();
+    files();
+    reasons();
+    printf("%d answers, %d differ\n", held, differ);
+    return differ == 0 ? 0 : 1;
+}

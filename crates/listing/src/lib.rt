@@ -1,6 +1,5 @@
 // The listing of a recording: the text that says what a configuration and a data file hold, or why one of them is refused.
 // put_listing answers for any two files, and puts exactly the text that the definition `listing` gives in front of its room; what stands past it stays. The data file is checked once, and each row is read from its place.
-use config::Config;
 use model::AnalogNo;
 use model::Answer;
 use model::Kind;
@@ -10,6 +9,7 @@ use model::Row;
 use model::Sample;
 use model::Status;
 use model::StatusNo;
+use rules::Config;
 ghost use mathlib.Core.Path.{_≡_};
 ghost use mathlib.Core.List.{_∷_};
 ghost use Prim.Native.Nat.{_+_, _*_, _≤_};

@@ -5,8 +5,8 @@ use lib.IntN.{ℤ, pos}
 use lib.ListN.{getD}
 use Rattle.lists.specs.Tables.{tab}
 use Rattle.model.specs.Kinds.{numberOf}
-use Rattle.config.specs.declared.Config.{Config}
-use Rattle.config.specs.declared.Moment.{Moment}
+use Rattle.rules.specs.declared.Config.{Config}
+use Rattle.rules.specs.declared.Moment.{Moment}
 use Rattle.places.specs.Rows.{statusPlace}
 
 -- channels, rates and rows

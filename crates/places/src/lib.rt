@@ -1,10 +1,10 @@
 // Rows and configurations as places: whole numbers of 64 bits, as the exported calls show and take them.
 // Each function gives exactly what the definition of its name says; the laws of proofs/ say that a row is read back from the places that show it.
-use config::Config;
-use config::Moment;
 use model::Kind;
 use model::Layout;
 use model::Row;
+use rules::Config;
+use rules::Moment;
 ghost use mathlib.Core.Path.{_≡_};
 ghost use mathlib.Core.Bool.{false};
 ghost use mathlib.Core.List.{_∷_, _++_};

@@ -21,7 +21,7 @@ use Rattle.model.specs.Kinds.{fitsKind}
 use Rattle.model.specs.Layouts.{isSized, Sized}
 use Rattle.model.proofs.LayoutLaws.{sized}
 use Rattle.model.proofs.FitLaws.{misfit-all}
-use Rattle.config.specs.declared.Config.{Config}
+use Rattle.rules.specs.declared.Config.{Config}
 use Rattle.binary.specs.Rows.{rowSize}
 use Rattle.binary.proofs.SizeLaws.{size-le}
 use Rattle.plain.specs.Rows.{textLength}

@@ -16,7 +16,7 @@ use Rattle.model.specs.declared.Answer.the-variants as answer
 use Rattle.model.specs.Kinds.{kindOf}
 use Rattle.model.specs.Layouts.{isSized}
 use Rattle.model.specs.Refusals.{refused}
-use Rattle.config.specs.declared.Config.{Config}
+use Rattle.rules.specs.declared.Config.{Config}
 use Rattle.config.specs.declared.ConfigAnswer.{ConfigAnswer}
 use Rattle.config.specs.Config.{readConfig}
 use Rattle.data.specs.declared.RowAnswer.{RowAnswer}

@@ -1,7 +1,6 @@
 // The exported calls, on plain numbers and lent slices: what C and Rust link.
 // Each answers every combination of its arguments, and gives exactly what the definition of its name says; a refusal changes no lent place or byte.
 use change::Needed;
-use config::Config;
 use data::Written;
 use model::Answer;
 use model::Kind;
@@ -9,6 +8,7 @@ use model::KindNo;
 use model::Layout;
 use model::Refusal;
 use model::Row;
+use rules::Config;
 ghost use mathlib.Core.Path.{_≡_};
 ghost use lib.ListN.{length};
 ghost use Rattle.model.specs.Layouts.{Sized};

@@ -5,7 +5,6 @@ use mathlib.Core.List.{List, [], _∷_, _++_}
 use Prim.Native.Nat.{ℕ, zero, suc, _+_}
 use lib.Dec.{eqb}
 use lib.ListN.{length, take, drop}
-use Rattle.lists.specs.Choice.{if_then_else_}
 use Rattle.lists.specs.Said.{Said, says, refuses, _>>=_, _>>_, must}
 use Rattle.lists.specs.Tables.{cat}
 use Rattle.text.specs.declared.Scanned.{Scanned}

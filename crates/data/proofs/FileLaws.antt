@@ -2,7 +2,7 @@
 --     by-kind                        text or one of the binary kinds
 --     bytes-text, bytes-binary, file-text, file-binary     a row and a file that are written, by the kind
 --     length-bytes                   a row takes as many bytes as it is told to
---     Writes                         a row that can be written: its time and its samples fit
+--     Writes, fits-text              a row that can be written: its time and its samples fit, for text the bounds of text
 --     fine-back, row-back            a file of written rows is fine, and has each row as it was written, with its places past A and D zero
 --     accepted, reads-back           the same of the calls
 --     row-writes, row-trimmed        a row of an accepted file can be written, and has its places past A and D zero
@@ -66,7 +66,7 @@ module _ (l : Layout) (text : l .kind ≡ Ascii) where
         cat-ext (λ i. bytesOf l (i + 1) (r i)) (λ i. textOf l (i + 1) (r i)) (l .rows) (λ i h. bytes-text (i + 1) (r i)),
       )
 
-  fits-text : (r : Row) → Writes l r → Fits l r
+  pub fits-text : (r : Row) → Writes l r → Fits l r
   unfolding misfitOf
   fits-text r w = record { time = w .time; samples = λ i h. ap (λ (k : Kind). fitsKind k (getD (r .samples) i (pos 0))) (sym text) ∙ misfit-all (l .kind) (r .samples) (l .analogs) (w .all) i h }
 

@@ -1,13 +1,13 @@
 //! Systematic cases of the configuration: each rule, each field, each boundary, each place where the file can end.
 
 use crate::case::Case;
-use crate::damage::{at_every_place, spliced, Damage, BYTES};
+use crate::damage::{at_places, spliced, Damage, BYTES};
 use crate::draft::{Draft, FILLED, LEAST, RECORDING};
 use crate::rules::{Rule, LIMITS};
 use crate::walk::Walk;
 
 /// A configuration with room for all that is shown.
-fn config(cfg: Vec<u8>) -> Case {
+pub fn config(cfg: Vec<u8>) -> Case {
     Case::Config { cfg, places: 34 }
 }
 
@@ -15,11 +15,12 @@ fn config(cfg: Vec<u8>) -> Case {
 pub fn walk(walk: &mut Walk) {
     let drafts = [RECORDING, FILLED, LEAST].map(Draft::of);
     for draft in &drafts {
-        at_every_place(walk, &draft.bytes(), &Damage::every(), config);
+        let cfg = draft.bytes();
+        at_places(walk, &cfg, 0..=cfg.len(), &Damage::every(), config);
         every_field(walk, draft);
         field_counts(walk, draft);
         lines_moved(walk, draft);
-        rooms(walk, &draft.bytes());
+        rooms(walk, &cfg);
         endings(walk, draft);
         pairs_of_fields(walk, draft);
     }

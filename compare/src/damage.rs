@@ -3,6 +3,7 @@
 use crate::case::Case;
 use crate::dice::Dice;
 use crate::walk::Walk;
+use std::ops::RangeInclusive;
 
 /// Bytes that mean something to some rule, or lie beside one that does.
 pub const BYTES: [u8; 22] =
@@ -64,9 +65,15 @@ impl Damage {
     }
 }
 
-/// Every damage of a list at every place of the bytes.
-pub fn at_every_place(walk: &mut Walk, bytes: &[u8], damages: &[Damage], make: impl Fn(Vec<u8>) -> Case) {
-    for at in 0..=bytes.len() {
+/// Every damage of a list at every place of some.
+pub fn at_places(
+    walk: &mut Walk,
+    bytes: &[u8],
+    places: RangeInclusive<usize>,
+    damages: &[Damage],
+    make: impl Fn(Vec<u8>) -> Case,
+) {
+    for at in places {
         for damage in damages {
             walk.case(|| make(damage.at(bytes, at)));
         }

@@ -1,9 +1,11 @@
 //! Systematic cases of the data calls: each rule, each field, each boundary, each place where the file can end.
 
+use crate::calls::{change, four_calls, needed};
 use crate::case::{Case, Layout};
 use crate::damage::{spliced, Damage};
-use crate::files::{plain_file, row_bytes, text, Recording, BEYOND, MARK, SAMPLES};
+use crate::files::{plain_file, row_bytes, text, widest_line, Recording, BEYOND, MARK, SAMPLES};
 use crate::walk::Walk;
+use std::ops::RangeInclusive;
 
 /// Spellings of a text row's number, time, samples and statuses.
 #[rustfmt::skip]
@@ -74,28 +76,6 @@ pub fn walk(walk: &mut Walk) {
     reasons(walk);
 }
 
-/// Bytes that a change needs; where it is refused, some few.
-pub fn needed(layout: Layout, file: &[u8], new_kind: u32) -> usize {
-    let l = layout;
-    match second::length(l.a, l.d, l.rows, l.kind, file, new_kind) {
-        answer if answer.number == 0 => answer.length as usize,
-        _ => 16,
-    }
-}
-
-/// Each of the four calls that read a file, rows and kinds by turns.
-fn four_calls(walk: &mut Walk, layout: Layout, turn: usize, file: &dyn Fn() -> Vec<u8>) {
-    let turn = turn as u32;
-    walk.case(|| Case::Check { layout, file: file() });
-    walk.case(|| Case::Row { layout, file: file(), n: 1 + turn % layout.rows.max(1), places: layout.places() });
-    walk.case(|| Case::Length { layout, file: file(), new_kind: turn % 3 });
-    walk.case(|| {
-        let (file, new_kind) = (file(), turn / 3 % 3);
-        let room = needed(layout, &file, new_kind) + turn as usize % 2;
-        Case::Change { layout, file, new_kind, room }
-    });
-}
-
 /// Sizes of layouts on both sides of what is allowed, and where sums or products would not fit 32 bits.
 fn sizes(walk: &mut Walk) {
     let analogs = [0, 1, 2, 95, 96, 97, 1 << 31, u32::MAX - 1, u32::MAX];
@@ -133,7 +113,12 @@ fn damaged(walk: &mut Walk, layout: Layout, file: &[u8]) {
     if layout.kind > 0 {
         damages.extend(Damage::flips());
     }
-    for at in 0..=file.len() {
+    damaged_at(walk, layout, file, 0..=file.len(), &damages);
+}
+
+/// A file with each damage of a list at each place of some.
+pub fn damaged_at(walk: &mut Walk, layout: Layout, file: &[u8], places: RangeInclusive<usize>, damages: &[Damage]) {
+    for at in places {
         for (turn, damage) in damages.iter().enumerate() {
             four_calls(walk, layout, at + turn, &|| damage.at(file, at));
         }
@@ -206,11 +191,8 @@ fn samples_to_change(walk: &mut Walk, recording: &Recording) {
         for sample in SAMPLES {
             for new_kind in 0..3 {
                 walk.case(|| {
-                    let mut recording = recording.clone();
-                    recording.rows[row as usize - 1][place as usize] = sample;
-                    let file = recording.bytes();
-                    let room = needed(layout, &file, new_kind);
-                    Case::Change { layout, file, new_kind, room }
+                    let recording = recording.with(row as usize - 1, place as usize, sample);
+                    change(layout, recording.bytes(), new_kind, 0)
                 });
             }
         }
@@ -229,9 +211,7 @@ fn two_samples_to_change(walk: &mut Walk, recording: &Recording) {
         for &(other_row, other_place) in &places {
             for room in [0, 5000] {
                 walk.case(|| {
-                    let mut recording = recording.clone();
-                    recording.rows[row][place] = 32_768;
-                    recording.rows[other_row][other_place] = -32_769;
+                    let recording = recording.with(row, place, 32_768).with(other_row, other_place, -32_769);
                     Case::Change { layout, file: recording.bytes(), new_kind: 1, room }
                 });
             }
@@ -369,11 +349,7 @@ fn most_rows(walk: &mut Walk, kind: u32) {
     let file = || plain_file(layout);
     walk.case(|| Case::Check { layout, file: file() });
     walk.case(|| Case::Row { layout, file: file(), n: 1_000_000, places: 2 });
-    walk.case(|| {
-        let (file, new_kind) = (file(), (kind + 1) % 3);
-        let room = needed(layout, &file, new_kind);
-        Case::Change { layout, file, new_kind, room }
-    });
+    walk.case(|| change(layout, file(), (kind + 1) % 3, 0));
     walk.case(|| Case::Check { layout: Layout { rows: 999_999, ..layout }, file: file() });
     walk.case(|| {
         let mut file = file();
@@ -436,9 +412,7 @@ fn long_rows(walk: &mut Walk) {
 /// The longest row that there is, 1,880 bytes, each field as long as it may be, and one field longer or shorter by one.
 fn widest_rows(walk: &mut Walk) {
     let layout = Layout::new(96, 256, 1, 0);
-    let mut line = vec![String::from("0000000001"), String::from("         1234")];
-    line.extend((0..96).map(|k| format!("{:>13}", -k)));
-    line.extend((0..256).map(|k| (k % 2).to_string()));
+    let line = widest_line(1);
     four_calls(walk, layout, 1, &|| text(&[line.clone()], MARK));
     for field in [0, 1, 2, 50, 97, 98, 353] {
         for change in 0..4 {

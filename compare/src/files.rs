@@ -51,6 +51,14 @@ pub fn text_fields(n: u32, row: &[i64]) -> Vec<String> {
     [i64::from(n)].iter().chain(row).map(i64::to_string).collect()
 }
 
+/// The fields of the longest row that there is, 1,880 bytes: A = 96, D = 256, each field as long as it may be.
+pub fn widest_line(n: u32) -> Vec<String> {
+    let mut line = vec![format!("{n:010}"), format!("{:>13}", 1234)];
+    line.extend((0..96).map(|k| format!("{:>13}", -k)));
+    line.extend((0..256).map(|k| (k % 2).to_string()));
+    line
+}
+
 /// A row's bytes in the layout's kind, with its line end if it is text.
 pub fn row_bytes(layout: Layout, n: u32, row: &[i64]) -> Vec<u8> {
     match layout.kind {
@@ -86,6 +94,13 @@ impl Recording {
     /// Plain rows, as many as the layout has.
     pub fn plain(layout: Layout) -> Recording {
         Recording { layout, rows: (1..=layout.rows).map(|n| plain_row(layout, n)).collect() }
+    }
+
+    /// The same with another number in a place of a row, which is counted from 0.
+    pub fn with(&self, row: usize, place: usize, number: i64) -> Recording {
+        let mut recording = self.clone();
+        recording.rows[row][place] = number;
+        recording
     }
 
     /// The file's bytes; a text ends with its mark.

@@ -1,6 +1,7 @@
 //! Runs the proved library and the second program on the same cases and compares every answer, every place and every byte.
 
 mod buffer;
+mod calls;
 mod case;
 mod configs;
 mod damage;
@@ -12,8 +13,11 @@ mod judge;
 mod known;
 mod lent;
 mod library;
+mod misfits;
 mod random;
 mod rules;
+mod seams;
+mod spellings;
 mod tally;
 mod walk;
 mod watch;
@@ -80,6 +84,9 @@ fn walk_family(walk: &mut Walk, family: Family, settings: &Settings, random: u64
         Family::Systematic => {
             configs::walk(walk);
             data::walk(walk);
+            seams::walk(walk);
+            spellings::walk(walk);
+            misfits::walk(walk);
         }
         Family::Random => walk.indexed(random, |index| random::case(settings.seed, index)),
     }

@@ -1,8 +1,9 @@
 //! Random cases: a good file, damaged up to four times, and arguments near those that go with it.
 
+use crate::calls::needed;
 use crate::case::{Case, Layout};
 use crate::damage;
-use crate::data::{needed, ENDINGS, FIELDS};
+use crate::data::{ENDINGS, FIELDS};
 use crate::dice::Dice;
 use crate::draft::Draft;
 use crate::files::{row_bytes, text, Recording, BEYOND, SAMPLES};

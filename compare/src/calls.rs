@@ -1,0 +1,45 @@
+//! The calls that read a data file, each as a case.
+
+use crate::case::{Case, Layout};
+use crate::walk::Walk;
+
+/// Bytes that a change needs; where it is refused, some few.
+pub fn needed(layout: Layout, file: &[u8], new_kind: u32) -> usize {
+    let l = layout;
+    match second::length(l.a, l.d, l.rows, l.kind, file, new_kind) {
+        answer if answer.number == 0 => answer.length as usize,
+        _ => 16,
+    }
+}
+
+/// A change into the room that it needs, and so many bytes more.
+pub fn change(layout: Layout, file: Vec<u8>, new_kind: u32, more: usize) -> Case {
+    let room = needed(layout, &file, new_kind) + more;
+    Case::Change { layout, file, new_kind, room }
+}
+
+/// Each of the four calls that read a file, rows and kinds by turns.
+pub fn four_calls(walk: &mut Walk, layout: Layout, turn: usize, file: &dyn Fn() -> Vec<u8>) {
+    let turn = turn as u32;
+    walk.case(|| Case::Check { layout, file: file() });
+    walk.case(|| Case::Row { layout, file: file(), n: 1 + turn % layout.rows.max(1), places: layout.places() });
+    walk.case(|| Case::Length { layout, file: file(), new_kind: turn % 3 });
+    walk.case(|| change(layout, file(), turn / 3 % 3, turn as usize % 2));
+}
+
+/// The check, the first row and the last, and for each kind the length and the change.
+pub fn every_call(walk: &mut Walk, layout: Layout, file: &dyn Fn() -> Vec<u8>) {
+    walk.case(|| Case::Check { layout, file: file() });
+    for n in [1, layout.rows] {
+        walk.case(|| Case::Row { layout, file: file(), n, places: layout.places() });
+    }
+    for new_kind in 0..3 {
+        length_and_change(walk, layout, new_kind, file);
+    }
+}
+
+/// The length of one change, and the change.
+pub fn length_and_change(walk: &mut Walk, layout: Layout, new_kind: u32, file: &dyn Fn() -> Vec<u8>) {
+    walk.case(|| Case::Length { layout, file: file(), new_kind });
+    walk.case(|| change(layout, file(), new_kind, 0));
+}

@@ -1,6 +1,7 @@
 -- Laws of the kinds, and of what an answer says of the rule that gave it.
 --     text-kind                   text
 --     binary-arm, not-text, binary-kind     the two binary kinds, by their places among the kinds, or as those that are not text
+--     bytes-told                  the rule that an answer of so many bytes came from
 --     row-told                    a row that there is
 --     writable                    what an answer that a row is written says of the layout, the row and the room
 -- Assumes nothing.
@@ -29,7 +30,7 @@ use Rattle.model.proofs.LayoutLaws.{sized}
 use Rattle.data.specs.declared.Written.the-variants.{Bytes}
 use Rattle.data.specs.Files.{byKind, lengthOf, hasRow, misfitOf, written, writeAnswer}
 
-bytes-told : (x : Said Refusal ℕ) (m : ℕ) → written x ≡ Bytes m → x ≡ says m
+pub bytes-told : (x : Said Refusal ℕ) (m : ℕ) → written x ≡ Bytes m → x ≡ says m
 bytes-told (says k) m e = cc
 bytes-told (refuses r) m e = cc
 

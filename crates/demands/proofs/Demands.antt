@@ -26,7 +26,7 @@ use Rattle.model.specs.declared.Layout.{Layout}
 use Rattle.model.specs.declared.Row.{Row}
 use Rattle.model.specs.declared.Refusal.{Refusal}
 use Rattle.model.specs.declared.Answer.the-variants.{Yes}
-use Rattle.model.specs.Layouts.{isSized}
+use Rattle.model.specs.Layouts.{isSized, inKind}
 use Rattle.model.specs.Refusals.{refused}
 use Rattle.model.specs.Rows.{trimmed}
 use Rattle.model.proofs.AnswerLaws.{yes-told}
@@ -37,7 +37,7 @@ use Rattle.texts.proofs.PlainLaws.{exactly-plain}
 use Rattle.data.proofs.Laws.{text-kind}
 use Rattle.data.specs.Files.{fileFine, rowAt, bytesOf, hasRow, misfitOf, checkFile, rowAnswer, showRow, written, fileOf, endMark}
 use Rattle.data.proofs.FileLaws as files
-use Rattle.change.specs.Change.{inKind, fitRows, fileLength, needsBytes, changeAnswer, changed, AllFit}
+use Rattle.change.specs.Change.{fitRows, fileLength, needsBytes, changeAnswer, changed, AllFit}
 use Rattle.change.proofs.WriteLaws.{length-file, fit-all}
 
 -- DEMAND 2. A written row, standing in an accepted file, reads back the same: its places past A and D zero

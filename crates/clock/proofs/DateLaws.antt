@@ -19,13 +19,13 @@ use borrow.Author.Tests.{eq-eqb, eqb-true, eqb-false, ltb-true, ltb-false}
 use lib.Dec.{eqb, ltb, lit<}
 use lib.IntN.{ℤ, pos, _+ℤ_}
 use Rattle.lists.specs.Choice.{if_then_else_}
-use Rattle.lists.proofs.Cases.{on-test}
+use Rattle.lists.proofs.Cases.{on-test, clash}
 use Rattle.lists.proofs.Every.{and-split}
 use Rattle.clock.specs.declared.Date.{Date}
 use Rattle.clock.specs.declared.DateField.the-variants.{Is, Form, Range}
 use Rattle.clock.specs.Patterns.{within, fits}
 use Rattle.clock.specs.Dates.{leapYear, shortMonth, monthDays, validDate, datePattern, dateOf, readDate, daysOfYears, daysOfMonths, dayNumber, nextDay}
-use Rattle.clock.proofs.PatternLaws.{within-bounds, within-is, clash, chosen}
+use Rattle.clock.proofs.PatternLaws.{within-bounds, within-is, chosen}
 
 pub date-bounds : (x : Date) → validDate x ≡ true
     → (1900 ≤ x .year) × (x .year ≤ 9999) × (1 ≤ x .month) × (x .month ≤ 12) × (1 ≤ x .day) × (x .day ≤ monthDays (x .year) (x .month))

@@ -2,7 +2,7 @@
 --     fits-length, fits-apart        what fits is as long as the pattern, and what is not does not fit
 --     digits-lt                      the value of k digits or fewer is below 10 ^ k
 --     within-bounds, within-is       what a number within bounds is, as an order
---     clash, chosen                  no number is another; which way a choice in a choice went
+--     chosen                         which way a choice in a choice went
 -- Assumes nothing.
 use mathlib.Core.Path.{_≡_, refl, ap}
 use mathlib.Core.Bool.{Bool, true, false}
@@ -53,9 +53,6 @@ within-bounds least most n e =
 pub within-is : (least most n : ℕ) → least ≤ n → n ≤ most → within least most n ≡ true
 unfolding within
 within-is least most n h k = and-join (leb least n) (leb n most) (le-leb least n h) (le-leb n most k)
-
-pub clash : _≡_ {A = ℕ} 0 1 → ⊥
-clash e = omega arith
 
 pub chosen : {A : Type 0} (t u : Bool) (a r f v : A) → (r ≡ v → ⊥) → (f ≡ v → ⊥) → (if t then if u then a else r else f) ≡ v → (u ≡ true) × (a ≡ v)
 chosen true true a r f v h k e = (refl, e)

@@ -14,6 +14,7 @@ use native.Mathlib.Omega.{arith}
 use borrow.Author.Tests.{ltb-true}
 use lib.Dec.{ltb}
 use lib.ListN.{length, take}
+use Rattle.lists.proofs.Cases.{clash}
 use Rattle.lists.proofs.Every.{and-split}
 use Rattle.numerals.specs.Counts.{lengthIn}
 use Rattle.numerals.proofs.CountLaws.{length-bounds}
@@ -21,7 +22,7 @@ use Rattle.clock.specs.declared.Time.{Time}
 use Rattle.clock.specs.declared.TimeField.the-variants.{Is, Form, Range}
 use Rattle.clock.specs.Patterns.{fits}
 use Rattle.clock.specs.Times.{validTime, timePattern, timeForm, timeOf, readTime, secondOfDay}
-use Rattle.clock.proofs.PatternLaws.{clash, chosen}
+use Rattle.clock.proofs.PatternLaws.{chosen}
 
 pub time-bounds : (x : Time) → validTime x ≡ true → (x .hour < 24) × (x .minute < 60) × (x .second < 60) × (x .nanosecond < 1_000_000_000)
 unfolding validTime

@@ -17,7 +17,7 @@ use lib.ListN.{length, getD, take}
 use Rattle.lists.specs.Said.{says, _>>=_}
 use Rattle.lists.specs.Quoted.{quoted}
 use Rattle.lists.specs.Tables.{every}
-use Rattle.lists.proofs.Cases.{on-test}
+use Rattle.lists.proofs.Cases.{on-test, clash}
 use Rattle.lists.proofs.Every.{and-split}
 use Rattle.text.specs.Fields.{fieldCount, fieldAt}
 use Rattle.numerals.specs.declared.Count.{Count}
@@ -109,7 +109,7 @@ kind-le l =
 
 -- what is among digits of at most k is at most k
 among-le : (k b : ℕ) (allowed : List ℕ) → every (λ a. leb (digitValue a) k) allowed ≡ true → isAmong b allowed ≡ true → digitValue b ≤ k
-among-le k b [] h e = let z : _≡_ {A = ℕ} 0 1 = cc in absurd (omega arith)
+among-le k b [] h e = clash (cc)
 among-le k b (a ∷ l) h e =
     let s = and-split (leb (digitValue a) k) (every (λ a. leb (digitValue a) k) l) h in
     on-test (eqb a b)

@@ -10,7 +10,7 @@ use Prim.Native.Nat.{ℕ, _+_, _-_, _^_, _≤_}
 use native.Mathlib.Omega.{arith}
 use lib.Dec.{ltb, eqb}
 use lib.ListN.{length, drop, length-drop}
-use Rattle.lists.proofs.Cases.{on-test}
+use Rattle.lists.proofs.Cases.{on-test, clash}
 use Rattle.numerals.specs.declared.Count.{Count}
 use Rattle.numerals.specs.declared.Count.the-variants.{Is, Form}
 use Rattle.numerals.specs.Counts.{lengthIn, isDigit, Below}
@@ -45,7 +45,7 @@ raised-bounds : (minus : Bool) (k : Count) (e : ℕ) → Below (10 ^ 3) k → ra
 unfolding raisedBy
 raised-bounds true (Is v) e h q = let z : 1100 - v ≡ e = cc in (omega arith, omega arith)
 raised-bounds false (Is v) e h q = let z : 1100 + v ≡ e = cc in (omega arith, omega arith)
-raised-bounds minus Form e h q = let z : _≡_ {A = ℕ} 0 1 = cc in absurd (omega arith)
+raised-bounds minus Form e h q = clash (cc)
 
 exponent-bounds : (l : List ℕ) (e : ℕ) → exponentOf l ≡ Is e → (101 ≤ e) × (e ≤ 2099)
 unfolding exponentOf signedExponent
@@ -53,11 +53,11 @@ exponent-bounds [] e q = let z : 1100 ≡ e = cc in (omega arith, omega arith)
 exponent-bounds (b ∷ l) e q =
     on-test (isE b)
     (λ t. raised-bounds (hasMinus l) (shortNumber (drop (signLength l) l)) e (short-below (drop (signLength l) l)) (rw t at q))
-    (λ t. let x : Form ≡ Is e = rw t at q in let z : _≡_ {A = ℕ} 0 1 = cc in absurd (omega arith))
+    (λ t. let x : Form ≡ Is e = rw t at q in clash (cc))
 
 pub form-bounds : (l : List ℕ) (e : ℕ) → realForm l ≡ Is e → (101 ≤ e) × (e ≤ 2099)
 unfolding realForm
 form-bounds l e q =
     on-test (eqb (mantissaLength l) 0)
-    (λ t. let x : Form ≡ Is e = rw t at q in let z : _≡_ {A = ℕ} 0 1 = cc in absurd (omega arith))
+    (λ t. let x : Form ≡ Is e = rw t at q in clash (cc))
     (λ t. exponent-bounds (drop (mantissaLength l) l) e (rw t at q))

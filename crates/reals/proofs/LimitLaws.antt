@@ -10,7 +10,7 @@ use mathlib.Core.List.{List, [], _∷_}
 use Prim.Native.Nat.{ℕ, _+_, _-_, _*_, _^_, _≤_, _<_}
 use native.Mathlib.Omega.{arith}
 use lib.ListN.{length, take, drop, length-take, length-drop}
-use Rattle.lists.proofs.Cases.{on-test}
+use Rattle.lists.proofs.Cases.{on-test, clash}
 use Rattle.numerals.specs.declared.Count.{Count}
 use Rattle.numerals.specs.declared.Count.the-variants as count
 use Rattle.numerals.specs.Counts.{lengthIn, isDigit, leadingSpaces}
@@ -50,8 +50,8 @@ unfolding inBound
 from-sound minus l (count.Is e) x h f q =
     on-test (within (exactOf minus e l))
     (λ t. let r : Is (exactOf minus e l) ≡ Is x = rw t at q in let s : exactOf minus e l ≡ x = cc in rw (← s) (exact-sound minus e l h (form-bounds l e f .1)))
-    (λ t. let r : Range ≡ Is x = rw t at q in let z : _≡_ {A = ℕ} 0 1 = cc in absurd (omega arith))
-from-sound minus l count.Form x h f q = let z : _≡_ {A = ℕ} 0 1 = cc in absurd (omega arith)
+    (λ t. let r : Range ≡ Is x = rw t at q in clash (cc))
+from-sound minus l count.Form x h f q = clash (cc)
 
 pub limit-sound : (l : List ℕ) (x : Exact) → readLimit l ≡ Is x → Sound x
 unfolding readLimit signedLimit limitOf
@@ -61,4 +61,4 @@ limit-sound l x q =
     let s = drop (leadingSpaces l) l in
     let u = drop (signLength s) s in
     from-sound (hasMinus s) u (realForm u) x (simp length-drop (omega (arith, length-bounds 1 13 l t .1))) refl (rw t at q))
-    (λ t. let r : Form ≡ Is x = rw t at q in let z : _≡_ {A = ℕ} 0 1 = cc in absurd (omega arith))
+    (λ t. let r : Form ≡ Is x = rw t at q in clash (cc))

@@ -15,7 +15,7 @@ use native.Mathlib.Omega.{arith}
 use lib.ListN.{length, take, drop, length-drop}
 use lib.Seq.{drop-drop}
 use Rattle.lists.specs.Said.{Said, says, refuses, _>>=_, _>>_}
-use Rattle.lists.proofs.SaidLaws.{then-told}
+use Rattle.lists.proofs.SaidLaws.{then-told, bind-ext}
 use Rattle.lists.proofs.Tables.{block-end}
 use Rattle.model.specs.declared.Kind.the-variants.{Ascii}
 use Rattle.model.specs.declared.Layout.{Layout}
@@ -50,16 +50,12 @@ module _ (l : Layout) (text : l .kind ≡ Ascii) where
   unfolding takenHere
   text-taken t = text-kind (l .kind) (texts.lineTaken (texts.scanRow t)) (binary.rowSize l) text
 
-  same-bind : {A : Type 0} (x : Said Refusal ℕ) (f g : ℕ → Said Refusal A) → ((k : ℕ) → f k ≡ g k) → (x >>= f) ≡ (x >>= g)
-  same-bind (says k) f g h = h k
-  same-bind (refuses r) f g h = refl
-
   text-walk : (t : List ℕ) (n m : ℕ) → walkFine l t n m ≡ texts.checkRows l t n m
   unfolding walkFine texts.checkRows endFine
   text-walk t n zero = text-kind (l .kind) (texts.checkEnd n t) (says tt) text
   text-walk t n (suc m) =
       rw (text-check n t)
-      (same-bind (texts.checkRow l n t) (λ k. walkFine l (drop k t) (n + 1) m) (λ k. texts.checkRows l (drop k t) (n + 1) m) (λ k. text-walk (drop k t) (n + 1) m))
+      (bind-ext (texts.checkRow l n t) (λ k. walkFine l (drop k t) (n + 1) m) (λ k. texts.checkRows l (drop k t) (n + 1) m) (λ k. text-walk (drop k t) (n + 1) m))
 
 -- a file of the binary kinds
 module _ (l : Layout) (other : l .kind ≡ Ascii → ⊥) where

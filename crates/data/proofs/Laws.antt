@@ -3,12 +3,13 @@
 --     binary-arm, not-text, binary-kind     the two binary kinds, by their places among the kinds, or as those that are not text
 --     bytes-told                  the rule that an answer of so many bytes came from
 --     row-told                    a row that there is
+--     accepted-fine               a file that is accepted is of a sized layout, and fine
 --     writable                    what an answer that a row is written says of the layout, the row and the room
 -- Assumes nothing.
 use mathlib.Core.Path.{_≡_, refl}
 use mathlib.Core.Logic.{⊎-elim}
 use mathlib.Core.Bool.{true}
-use mathlib.Core.List.{[], _∷_}
+use mathlib.Core.List.{List, [], _∷_}
 use Prim.Native.Nat.{ℕ, _+_, _≤_}
 use native.Mathlib.Omega.{arith}
 use borrow.Author.Tests.{eqb-true, leb-true}
@@ -24,11 +25,13 @@ use Rattle.model.specs.declared.Kind.the-variants.{Ascii, Binary, Binary32}
 use Rattle.model.specs.declared.Layout.{Layout}
 use Rattle.model.specs.declared.Row.{Row}
 use Rattle.model.specs.declared.Refusal.{Refusal}
+use Rattle.model.specs.declared.Answer.the-variants.{Yes}
 use Rattle.model.specs.Layouts.{isSized, Sized}
 use Rattle.model.specs.Refusals.{refused}
+use Rattle.model.proofs.AnswerLaws.{yes-told}
 use Rattle.model.proofs.LayoutLaws.{sized}
 use Rattle.data.specs.declared.Written.the-variants.{Bytes}
-use Rattle.data.specs.Files.{byKind, lengthOf, hasRow, misfitOf, written, writeAnswer}
+use Rattle.data.specs.Files.{byKind, fileFine, lengthOf, hasRow, misfitOf, checkFile, written, writeAnswer}
 
 pub bytes-told : (x : Said Refusal ℕ) (m : ℕ) → written x ≡ Bytes m → x ≡ says m
 bytes-told (says k) m e = cc
@@ -55,6 +58,10 @@ unfolding hasRow
 row-told l n e =
     let s = and-split (leb 1 n) (leb n (l .rows)) e in
     (leb-true 1 n (s .0), leb-true n (l .rows) (s .1))
+
+pub accepted-fine : (l : Layout) (s : List ℕ) → checkFile l s ≡ Yes → (isSized l ≡ true) × (fileFine l s ≡ says tt)
+unfolding checkFile
+accepted-fine l s e = must-told (isSized l) (refused 10 0 0) (fileFine l s) tt (yes-told _ e)
 
 -- row r, the n-th, may be written in m bytes, where there is room for so many
 pub record Writable (l : Layout) (n : ℕ) (r : Row) (room m : ℕ) : Type 0 where

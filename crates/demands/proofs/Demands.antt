@@ -17,7 +17,6 @@ use lib.Dec.{leb}
 use lib.ListN.{length}
 use Rattle.lists.specs.Said.{Said, says, refuses, _>>=_, _>>_, must}
 use Rattle.lists.specs.Tables.{every}
-use Rattle.lists.proofs.SaidLaws.{must-holds, then-told}
 use Rattle.lists.proofs.Tables.{cat-ext}
 use Rattle.words.specs.Words.{isByte}
 use Rattle.model.specs.declared.Kind.{Kind}
@@ -29,12 +28,11 @@ use Rattle.model.specs.declared.Answer.the-variants.{Yes}
 use Rattle.model.specs.Layouts.{isSized, inKind}
 use Rattle.model.specs.Refusals.{refused}
 use Rattle.model.specs.Rows.{trimmed}
-use Rattle.model.proofs.AnswerLaws.{yes-told}
 use Rattle.model.proofs.LayoutLaws.{sized}
 use Rattle.binaries.specs.Files.{checkBinary}
 use Rattle.texts.specs.Files.{checkText, Plain, plainText}
 use Rattle.texts.proofs.PlainLaws.{exactly-plain}
-use Rattle.data.proofs.Laws.{text-kind}
+use Rattle.data.proofs.Laws.{text-kind, accepted-fine}
 use Rattle.data.specs.Files.{fileFine, rowAt, bytesOf, hasRow, misfitOf, checkFile, rowAnswer, showRow, written, fileOf, endMark}
 use Rattle.data.proofs.FileLaws as files
 use Rattle.change.specs.Change.{fitRows, fileLength, needsBytes, changeAnswer, changed, AllFit}
@@ -44,13 +42,6 @@ use Rattle.change.proofs.WriteLaws.{length-file, fit-all}
 pub reads-back : (l : Layout) → isSized l ≡ true → (r : ℕ → Row) → ((i : ℕ) → i < l .rows → files.Writes l (r i))
     → (checkFile l (fileOf l r) ≡ Yes) × ((i : ℕ) → i < l .rows → showRow l (fileOf l r) (i + 1) ≡ rowAnswer (says (trimmed l (r i))))
 reads-back l ok r writes = (files.accepted l ok r writes, files.reads-back l ok r writes)
-
--- an accepted file is of a sized layout, and fine
-accepted-fine : (l : Layout) (s : List ℕ) → checkFile l s ≡ Yes → (isSized l ≡ true) × (fileFine l s ≡ says tt)
-unfolding checkFile
-accepted-fine l s e =
-    let t = then-told (must (isSized l) (refused 10 0 0)) (fileFine l s) tt (yes-told (must (isSized l) (refused 10 0 0) >> fileFine l s) e) in
-    (must-holds (isSized l) (refused 10 0 0) (t .0), t .1)
 
 fine-text : (l : Layout) (s : List ℕ) → l .kind ≡ Ascii → fileFine l s ≡ says tt → checkText l s ≡ says tt
 unfolding fileFine

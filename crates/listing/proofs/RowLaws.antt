@@ -1,6 +1,5 @@
 -- Laws of the walk over the rows of a file that was accepted.
 --     line-room       a row's line has at most 16 characters for each byte that the row takes
---     accepted-fine   a file that was accepted is fine
 --     Walked          what is known at a row of such a file
 --     walked-start, walked-row, walked-next     at the first row; that there is a row; and from one to the next
 -- Assumes nothing.
@@ -20,10 +19,7 @@ use Rattle.text.specs.Fields.{commas, fieldCount}
 use Rattle.model.specs.declared.Kind.{Kind}
 use Rattle.model.specs.declared.Kind.the-variants.{Ascii, Binary, Binary32}
 use Rattle.model.specs.declared.Layout.{Layout}
-use Rattle.model.specs.declared.Answer.the-variants.{Yes}
 use Rattle.model.specs.Kinds.{widthOf}
-use Rattle.model.specs.Layouts.{isSized}
-use Rattle.model.proofs.AnswerLaws.{yes-told}
 use Rattle.model.specs.Refusals.{refused}
 use Rattle.ascii.specs.Rows.{fieldsOf, checkLine}
 use Rattle.binary.specs.Rows.{rowSize}
@@ -31,7 +27,7 @@ use Rattle.texts.specs.Files.{scanRow, checkRow, lineTaken}
 use Rattle.texts.proofs.Laws.{row-fine}
 use Rattle.data.proofs.FileLaws.{by-kind}
 use Rattle.data.proofs.Laws.{text-kind, binary-kind}
-use Rattle.data.specs.Files.{fileFine, checkFile}
+use Rattle.data.specs.Files.{fileFine}
 use Rattle.walks.specs.Walks.{takenHere, restOf, HasRow, fineHere, checkHere, startFine, walkFine}
 use Rattle.walks.proofs.WalkLaws.{rest-none, rest-next, fine-walk, fine-taken, taken-within, has-row}
 use Rattle.listing.specs.Listing.{lineMost}
@@ -69,10 +65,6 @@ line-room l n t k e =
     by-kind (l .kind)
     (λ q. text-room l n t k (sym (text-kind (l .kind) (checkRow l n t) (fineHere l n t) q) ∙ e))
     (λ q. let w : rowSize l ≡ k = sym (binary-kind (l .kind) (lineTaken (scanRow t)) (rowSize l) q) ∙ fine-taken l n t k e in omega (arith, size-room l))
-
-pub accepted-fine : (l : Layout) (s : List ℕ) → checkFile l s ≡ Yes → fileFine l s ≡ says tt
-unfolding checkFile
-accepted-fine l s e = must-told (isSized l) (refused 10 0 0) (fileFine l s) tt (yes-told _ e) .1
 
 -- row i of a file s, counted from 0, begins at a place, and it and all that follow are fine
 pub record Walked (l : Layout) (s : List ℕ) (i at : ℕ) : Type 0 where

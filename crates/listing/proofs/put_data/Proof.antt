@@ -8,7 +8,7 @@ use Rattle.model.specs.declared.Answer.the-variants.{Yes, No}
 use Rattle.data.specs.Files.{checkFile}
 use Rattle.listing.specs.Listing.{recording}
 use Rattle.listing.proofs.Laws.{put-then}
-use Rattle.listing.proofs.RowLaws.{accepted-fine}
+use Rattle.data.proofs.Laws.{accepted-fine}
 use Rattle.listing.proofs.put_data.Statement.{statement}
 use Rattle.listing.proofs.put_data.Tie as tie
 
@@ -41,7 +41,7 @@ accepted c = sym (c .before .before .check .ensures) ∙ c .enum-told .given .1
 put-rows-requires : tie.Need-put-rows-requires
 put-rows-requires c κs =
     let a = c .before .before .before .before .before .before .before .before .before .before .before .args in
-    (c .before .before .before .before .before .before .before .before .before .before .before .pre .0, accepted-fine (a .layout) (a .dat .now) (accepted (c .before .before .before .before .before)), omega (arith, c .before .before .before .put-head .ensures .1))
+    (c .before .before .before .before .before .before .before .before .before .before .before .pre .0, accepted-fine (a .layout) (a .dat .now) (accepted (c .before .before .before .before .before)) .1, omega (arith, c .before .before .before .put-head .ensures .1))
 
 enum-known-answer : tie.Need-enum-known-answer
 enum-known-answer c = search needs

@@ -19,12 +19,12 @@
  * as tools/stack measures it:
  *
  *                     x86-64      aarch64
- *     zl_config          1024         896
- *     zl_check            288         208
- *     zl_row             3328        2832
+ *     zl_config           784         864
+ *     zl_check            352         304
+ *     zl_row             3344        2864
  *     zl_write_row       2576        2544
- *     zl_length          1584        1472
- *     zl_change          3760        2976
+ *     zl_length          2032        1920
+ *     zl_change          4224        3424
  *     zl_reason            48           0
  */
 #ifndef ZAGALUME_H

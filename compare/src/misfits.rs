@@ -1,4 +1,4 @@
-//! Systematic cases of changes of kind: samples that do not fit the binary kind, in every place, and those that just do.
+//! Systematic cases of changes of kind and of written rows: samples that do not fit the kind, in every place, and those that just do.
 
 use crate::calls::{change, every_call, length_and_change, needed};
 use crate::case::{Case, Layout};
@@ -25,6 +25,7 @@ pub fn walk(walk: &mut Walk) {
             }
             one_at_the_limit(walk, &recording);
             all_at_the_limits(walk, &recording);
+            one_written(walk, &recording);
         }
     }
     for kind in [0, 2] {
@@ -59,6 +60,20 @@ fn one_at_the_limit(walk: &mut Walk, recording: &Recording) {
             for new_kind in [1, 2] {
                 walk.case(|| change(recording.layout, recording.with(place % 3, place, sample).bytes(), new_kind, 0));
             }
+        }
+    }
+}
+
+/// A row written with one sample just outside the kind's range, or just within it, in every place.
+fn one_written(walk: &mut Walk, recording: &Recording) {
+    let layout = recording.layout;
+    let half = if layout.kind == 1 { 1 << 15 } else { 1 << 31 };
+    for place in 1..=layout.a as usize {
+        for sample in [half, -half - 1, half - 1, -half] {
+            walk.case(|| {
+                let row = recording.with(1, place, sample).rows[1].clone();
+                Case::WriteRow { layout, n: 2, row, room: 3000 }
+            });
         }
     }
 }

@@ -4,11 +4,12 @@
 use mathlib.Core.Path.{_≡_, refl}
 use Prim.Native.String.{String}
 use Rattle.lists.specs.Quoted.{quoted}
-use Rattle.numerals.specs.declared.Count.{Count}
 use Rattle.numerals.specs.declared.Count.the-variants as count
 use Rattle.numerals.specs.Counts.{lengthIn, isDigit, numberOf, readCount}
+use Rattle.model.specs.declared.Kind.the-variants.{Ascii, Binary32}
 use Rattle.fields.specs.declared.Field.{Field}
 use Rattle.fields.specs.declared.Field.the-variants.{Is, Form, Range}
+use Rattle.fields.specs.declared.KindField.the-variants as kind
 use Rattle.fields.specs.Fields.{inRange, readCountIn, readLettered, readYear, readOneOf, digitValue, readDigitOf, readState, readSide, readQuality, readLeap, small, readKind}
 
 -- TT
@@ -61,12 +62,12 @@ pub examples :
     × (readQuality (quoted "C") ≡ Range)
     × (readLeap (quoted "3") ≡ Is 3)
     × (readLeap (quoted "4") ≡ Range)
-    × (readKind (quoted "BiNaRy32") ≡ Is 2)
-    × (readKind (quoted "ascii") ≡ Is 0)
-    × (readKind (quoted " ASCII") ≡ Range)
-    × (readKind (quoted "ASCII ") ≡ Range)
-    × (readKind (quoted "float32") ≡ Range)
-    × (readKind (quoted "ASCI") ≡ Form)
-    × (readKind (quoted "binary032") ≡ Form)
+    × (readKind (quoted "BiNaRy32") ≡ kind.Is Binary32)
+    × (readKind (quoted "ascii") ≡ kind.Is Ascii)
+    × (readKind (quoted " ASCII") ≡ kind.Range)
+    × (readKind (quoted "ASCII ") ≡ kind.Range)
+    × (readKind (quoted "float32") ≡ kind.Range)
+    × (readKind (quoted "ASCI") ≡ kind.Form)
+    × (readKind (quoted "binary032") ≡ kind.Form)
 unfolding lengthIn isDigit numberOf readCount inRange readCountIn readLettered readYear readOneOf digitValue readDigitOf readState readSide readQuality readLeap small readKind
 examples = (refl, refl, refl, refl, refl, refl, refl, refl, refl, refl, refl, refl, refl, refl, refl, refl, refl, refl, refl, refl, refl, refl, refl, refl, refl, refl, refl, refl, refl, refl, refl, refl, refl, refl, refl, refl, refl, refl, refl, refl)

@@ -9,8 +9,11 @@ use Rattle.lists.specs.Quoted.{quoted}
 use Rattle.numerals.specs.declared.Count.{Count}
 use Rattle.numerals.specs.declared.Count.the-variants as count
 use Rattle.numerals.specs.Counts.{lengthIn, numberOf, readCount}
+use Rattle.model.specs.declared.Kind.the-variants.{Ascii, Binary, Binary32}
 use Rattle.fields.specs.declared.Field.{Field}
 use Rattle.fields.specs.declared.Field.the-variants.{Is, Form, Range}
+use Rattle.fields.specs.declared.KindField.{KindField}
+use Rattle.fields.specs.declared.KindField.the-variants as kind
 
 -- a count that must be low to high
 unfoldable pub inRange : ℕ → ℕ → Count → Field
@@ -85,11 +88,11 @@ sameWord [] (b ∷ l) = false
 sameWord (a ∷ w) [] = false
 sameWord (a ∷ w) (b ∷ l) = if eqb (small b) a then sameWord w l else false
 
--- the kind of data file, a word of 5 to 8 characters in any case: 0 ASCII, 1 binary, 2 binary32
-unfoldable pub readKind : List ℕ → Field
+-- the kind of data file, by its word of 5 to 8 characters in any case
+unfoldable pub readKind : List ℕ → KindField
 readKind l =
-    if not (lengthIn 5 8 l) then Form
-    else if sameWord (quoted "ascii") l then Is 0
-    else if sameWord (quoted "binary") l then Is 1
-    else if sameWord (quoted "binary32") l then Is 2
-    else Range
+    if not (lengthIn 5 8 l) then kind.Form
+    else if sameWord (quoted "ascii") l then kind.Is Ascii
+    else if sameWord (quoted "binary") l then kind.Is Binary
+    else if sameWord (quoted "binary32") l then kind.Is Binary32
+    else kind.Range

@@ -1,5 +1,6 @@
 // What a field says where it may be one of a few things: counts in a range, counts with a letter, a year, one character, the word of a kind.
 // Each reader tells three answers apart, for any bytes: the value, a wrong form (5), and a right form that is not allowed (6).
+use model::Kind;
 use numerals::Count;
 ghost use mathlib.Core.Path.{_≡_};
 ghost use Prim.Native.Nat.{_≤_};
@@ -9,6 +10,13 @@ ghost use Prim.Native.Nat.{_-_};
 // A value, a wrong form, or a value that is not allowed.
 pub enum Field {
     Is(u64),
+    Form,
+    Range,
+}
+
+// A kind, a wrong form, or a word that is no kind's.
+pub enum KindField {
+    Is(Kind),
     Form,
     Range,
 }
@@ -181,21 +189,21 @@ fn same_word(word: &[u8], field: &[u8]) -> bool
     true
 }
 
-// The kind of data file: 0 ASCII, 1 binary, 2 binary32.
-pub fn read_kind(field: &[u8]) -> Field
+// The kind of data file, by its word.
+pub fn read_kind(field: &[u8]) -> KindField
     ensures { λ r. ⌜ r ≡ readKind (now (field .entry)) ⌝ }
 {
     if !numerals::length_in(field, 5, 8) {
-        return Field::Form;
+        return KindField::Form;
     }
     if same_word(b"ascii", field) {
-        return Field::Is(0);
+        return KindField::Is(Kind::Ascii);
     }
     if same_word(b"binary", field) {
-        return Field::Is(1);
+        return KindField::Is(Kind::Binary);
     }
     if same_word(b"binary32", field) {
-        return Field::Is(2);
+        return KindField::Is(Kind::Binary32);
     }
-    Field::Range
+    KindField::Range
 }

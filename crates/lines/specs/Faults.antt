@@ -1,4 +1,5 @@
 -- What is wrong with a field, as the paper's number: 0 where it is fine, 5 for its form, 6 for a value that is not allowed.
+use mathlib.Core.Bool.{Bool}
 use mathlib.Core.List.{List}
 use Prim.Native.Nat.{ℕ}
 use lib.Dec.{eqb}
@@ -9,7 +10,7 @@ use Rattle.numerals.specs.declared.Count.the-variants as count
 use Rattle.numerals.specs.Counts.{lengthIn, readCount}
 use Rattle.fields.specs.declared.Field.{Field}
 use Rattle.fields.specs.declared.Field.the-variants.{Is, Form, Range}
-use Rattle.fields.specs.Fields.{readYear}
+use Rattle.fields.specs.Fields.{readYear, readState, readSide}
 use Rattle.reals.specs.declared.Real.{Real}
 use Rattle.reals.specs.declared.Real.the-variants as real
 use Rattle.reals.specs.Forms.{readReal}
@@ -79,3 +80,15 @@ isZero real.Form = 5
 -- a real of 1 to 32 characters, which is zero
 unfoldable pub zeroFault : List ℕ → ℕ
 zeroFault l = isZero (readReal 1 32 l)
+
+-- a rate: zero where there are no rates, and else above zero
+abbrev pub rateFault : Bool → List ℕ → ℕ
+rateFault none l = if none then zeroFault l else aboveFault l
+
+-- whether primary or secondary values are meant: p P s S
+abbrev pub sideFault : List ℕ → ℕ
+sideFault l = valueOf (readSide l) .number
+
+-- the normal state: 0 or 1
+abbrev pub stateFault : List ℕ → ℕ
+stateFault l = valueOf (readState l) .number

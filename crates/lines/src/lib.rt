@@ -6,15 +6,18 @@ use clock::DateField;
 use clock::Time;
 use clock::TimeField;
 use fields::Field;
+use fields::KindField;
+use model::Kind;
 use numerals::Count;
 use reals::Exact;
 use reals::Limit;
 use reals::Real;
 ghost use mathlib.Core.Path.{_≡_};
-ghost use Prim.Native.Nat.{_<_, _^_};
 ghost use Rattle.reals.specs.Exact.{Sound};
-ghost use Rattle.lines.specs.Faults.{valueOf, textFault, yearFault, indexFault, realFault, frequencyFault, aboveFault, zeroFault};
-ghost use Rattle.lines.specs.Lines.{firstLine, channelsLine, maxFault, limitsFault, sideFault, stateFault, namesFault, scaleFault, analogLine, statusLine, frequencyLine, ratesLine, rateFault, rateLine, noDate, noTime, withTime, dateLine, kindLine, multiplierLine, withLocal, codesLine, qualityLine};
+ghost use Rattle.lines.specs.Faults.{valueOf, textFault, yearFault, indexFault, realFault, frequencyFault, aboveFault, zeroFault, rateFault, sideFault, stateFault};
+ghost use Rattle.lines.specs.Lines.{firstLine, channelsLine, names, scale, limits, analogLine, statusLine, frequencyLine, ratesLine, rateLine, dateLine, kindLine, multiplierLine, codesLine, qualityLine};
+ghost use Rattle.lines.specs.Answers.{faultOf, channelsOf, countedOf, noDate, noTime, datedOf, kindedOf, codedOf, qualityOf};
+ghost use Rattle.lines.specs.Inner.{maxFrom, withTime, withLocal};
 
 // A refusal's number and field; zeros for none.
 pub struct Fault {
@@ -43,6 +46,11 @@ pub struct Dated {
     pub fault: Fault,
     pub date: Date,
     pub time: Time,
+}
+
+pub struct Kinded {
+    pub fault: Fault,
+    pub kind: Kind,
 }
 
 pub struct Coded {
@@ -181,7 +189,7 @@ fn state_fault(field: &[u8]) -> u32
 
 // Station, device, year.
 pub fn first_line(line: &[u8]) -> Fault
-    ensures { λ r. ⌜ r ≡ firstLine (now (line .entry)) ⌝ }
+    ensures { λ r. ⌜ r ≡ faultOf (firstLine (now (line .entry))) ⌝ }
 {
     if text::field_count(line) != 3 {
         return at(4, 0);
@@ -213,7 +221,7 @@ fn no_channels(number: u32, field: u32) -> Channels
 
 // TT, A and D.
 pub fn channels_line(line: &[u8]) -> Channels
-    ensures { λ r. ⌜ r ≡ channelsLine (now (line .entry)) ⌝ }
+    ensures { λ r. ⌜ r ≡ channelsOf (channelsLine (now (line .entry))) ⌝ }
 {
     if text::field_count(line) != 3 {
         return no_channels(4, 0);
@@ -243,7 +251,7 @@ pub fn channels_line(line: &[u8]) -> Channels
 // Max, where min is told.
 fn max_fault(min: Exact, field: &[u8]) -> Fault
     requires { ⌜ Sound min ⌝ }
-    ensures { λ r. ⌜ r ≡ maxFault min (now (field .entry)) ⌝ }
+    ensures { λ r. ⌜ r ≡ faultOf (maxFrom min (now (field .entry))) ⌝ }
 {
     match reals::read_limit(field) {
         Limit::Form => at(5, 10),
@@ -259,7 +267,7 @@ fn max_fault(min: Exact, field: &[u8]) -> Fault
 
 // Min and max.
 fn limits_fault(line: &[u8]) -> Fault
-    ensures { λ r. ⌜ r ≡ limitsFault (now (line .entry)) ⌝ }
+    ensures { λ r. ⌜ r ≡ faultOf (limits (now (line .entry))) ⌝ }
 {
     match reals::read_limit(text::field_at(line, 9)) {
         Limit::Form => at(5, 9),
@@ -270,7 +278,7 @@ fn limits_fault(line: &[u8]) -> Fault
 
 // The number of fields, index, name, phase and circuit of channel i.
 fn names_fault(line: &[u8], count: usize, i: u64) -> Fault
-    ensures { λ r. ⌜ r ≡ namesFault count i (now (line .entry)) ⌝ }
+    ensures { λ r. ⌜ r ≡ faultOf (names count i (now (line .entry))) ⌝ }
 {
     if text::field_count(line) != count {
         return at(4, 0);
@@ -296,7 +304,7 @@ fn names_fault(line: &[u8], count: usize, i: u64) -> Fault
 
 // Unit, a, b and skew.
 fn scale_fault(line: &[u8]) -> Fault
-    ensures { λ r. ⌜ r ≡ scaleFault (now (line .entry)) ⌝ }
+    ensures { λ r. ⌜ r ≡ faultOf (scale (now (line .entry))) ⌝ }
 {
     let e5 = text_fault(text::field_at(line, 5), 1, 32);
     if e5 != 0 {
@@ -319,7 +327,7 @@ fn scale_fault(line: &[u8]) -> Fault
 
 // The line of analog channel i.
 pub fn analog_line(line: &[u8], i: u64) -> Fault
-    ensures { λ r. ⌜ r ≡ analogLine i (now (line .entry)) ⌝ }
+    ensures { λ r. ⌜ r ≡ faultOf (analogLine i (now (line .entry))) ⌝ }
 {
     let names = names_fault(line, 13, i);
     if names.number != 0 {
@@ -350,7 +358,7 @@ pub fn analog_line(line: &[u8], i: u64) -> Fault
 
 // The line of status channel i.
 pub fn status_line(line: &[u8], i: u64) -> Fault
-    ensures { λ r. ⌜ r ≡ statusLine i (now (line .entry)) ⌝ }
+    ensures { λ r. ⌜ r ≡ faultOf (statusLine i (now (line .entry))) ⌝ }
 {
     let names = names_fault(line, 5, i);
     if names.number != 0 {
@@ -365,7 +373,7 @@ pub fn status_line(line: &[u8], i: u64) -> Fault
 
 // The line frequency.
 pub fn frequency_line(line: &[u8]) -> Fault
-    ensures { λ r. ⌜ r ≡ frequencyLine (now (line .entry)) ⌝ }
+    ensures { λ r. ⌜ r ≡ faultOf (frequencyLine (now (line .entry))) ⌝ }
 {
     if text::field_count(line) != 1 {
         return at(4, 0);
@@ -388,7 +396,7 @@ fn count_said(number: u32, field: u32, value: u64) -> Counted
 
 // The number of rates.
 pub fn rates_line(line: &[u8]) -> Counted
-    ensures { λ r. ⌜ r ≡ ratesLine (now (line .entry)) ⌝ }
+    ensures { λ r. ⌜ r ≡ countedOf (ratesLine (now (line .entry))) ⌝ }
 {
     if text::field_count(line) != 1 {
         return count_said(4, 0, 0);
@@ -402,7 +410,7 @@ pub fn rates_line(line: &[u8]) -> Counted
 
 // A rate and its last row.
 pub fn rate_line(line: &[u8], none: bool, before: u64) -> Counted
-    ensures { λ r. ⌜ r ≡ rateLine none before (now (line .entry)) ⌝ }
+    ensures { λ r. ⌜ r ≡ countedOf (rateLine none before (now (line .entry))) ⌝ }
 {
     if text::field_count(line) != 2 {
         return count_said(4, 0, 0);
@@ -442,7 +450,7 @@ fn no_date(number: u32, field: u32) -> Dated
 
 // A date and the time in a field.
 fn with_time(date: Date, field: &[u8]) -> Dated
-    ensures { λ r. ⌜ r ≡ withTime date (now (field .entry)) ⌝ }
+    ensures { λ r. ⌜ r ≡ datedOf (withTime date (now (field .entry))) ⌝ }
 {
     match clock::read_time(field) {
         TimeField::Form => no_date(5, 2),
@@ -457,7 +465,7 @@ fn with_time(date: Date, field: &[u8]) -> Dated
 
 // A date and a time.
 pub fn date_line(line: &[u8]) -> Dated
-    ensures { λ r. ⌜ r ≡ dateLine (now (line .entry)) ⌝ }
+    ensures { λ r. ⌜ r ≡ datedOf (dateLine (now (line .entry))) ⌝ }
 {
     if text::field_count(line) != 2 {
         return no_date(4, 0);
@@ -469,23 +477,32 @@ pub fn date_line(line: &[u8]) -> Dated
     }
 }
 
-// The kind word.
-pub fn kind_line(line: &[u8]) -> Counted
-    ensures { λ r. ⌜ r ≡ kindLine (now (line .entry)) ⌝ }
+fn kind_said(number: u32, field: u32, kind: Kind) -> Kinded
+    ensures { λ r. ⌜ r ≡ record { fault = record { number = number; field = field }; kind = kind } ⌝ }
+{
+    Kinded {
+        fault: at(number, field),
+        kind: kind,
+    }
+}
+
+// The kind's word.
+pub fn kind_line(line: &[u8]) -> Kinded
+    ensures { λ r. ⌜ r ≡ kindedOf (kindLine (now (line .entry))) ⌝ }
 {
     if text::field_count(line) != 1 {
-        return count_said(4, 0, 0);
+        return kind_said(4, 0, Kind::Ascii);
     }
-    let v = value_of(fields::read_kind(text::field_at(line, 1)));
-    if v.number != 0 {
-        return count_said(v.number, 1, 0);
+    match fields::read_kind(text::field_at(line, 1)) {
+        KindField::Form => kind_said(5, 1, Kind::Ascii),
+        KindField::Range => kind_said(6, 1, Kind::Ascii),
+        KindField::Is(kind) => kind_said(0, 0, kind),
     }
-    count_said(0, 0, v.value)
 }
 
 // The time multiplier.
 pub fn multiplier_line(line: &[u8]) -> Fault
-    ensures { λ r. ⌜ r ≡ multiplierLine (now (line .entry)) ⌝ }
+    ensures { λ r. ⌜ r ≡ faultOf (multiplierLine (now (line .entry))) ⌝ }
 {
     if text::field_count(line) != 1 {
         return at(4, 0);
@@ -510,7 +527,7 @@ fn codes_said(number: u32, field: u32, code: i64, x: bool, local: i64) -> Coded
 
 // A time code and the local code in a field.
 fn with_local(code: i64, field: &[u8]) -> Coded
-    ensures { λ r. ⌜ r ≡ withLocal code (now (field .entry)) ⌝ }
+    ensures { λ r. ⌜ r ≡ codedOf (withLocal code (now (field .entry))) ⌝ }
 {
     match clock::read_local_code(field) {
         Code::Minutes(m) => codes_said(0, 0, code, false, m),
@@ -522,7 +539,7 @@ fn with_local(code: i64, field: &[u8]) -> Coded
 
 // The time code and the local code.
 pub fn codes_line(line: &[u8]) -> Coded
-    ensures { λ r. ⌜ r ≡ codesLine (now (line .entry)) ⌝ }
+    ensures { λ r. ⌜ r ≡ codedOf (codesLine (now (line .entry))) ⌝ }
 {
     if text::field_count(line) != 2 {
         return codes_said(4, 0, 0, false, 0);
@@ -547,7 +564,7 @@ fn quality_of(number: u32, field: u32, quality: u64, leap: u64) -> Quality
 
 // Time quality and leap second code.
 pub fn quality_line(line: &[u8]) -> Quality
-    ensures { λ r. ⌜ r ≡ qualityLine (now (line .entry)) ⌝ }
+    ensures { λ r. ⌜ r ≡ qualityOf (qualityLine (now (line .entry))) ⌝ }
 {
     if text::field_count(line) != 2 {
         return quality_of(4, 0, 0, 0);

@@ -3,7 +3,7 @@ use borrow.Author.Tests.{eq-eqb, ne-eqb}
 use Prim.Native.Nat.{_≤_}
 use native.Mathlib.Omega.{arith}
 use Rattle.lines.specs.Lines.{channelsLine}
-use Rattle.lines.proofs.Laws.{lettered-le}
+use Rattle.lines.proofs.Laws.{lettered-le, number-is}
 use borrow.Author.Needs.{needs}
 use Rattle.lines.proofs.channels_line.Statement.{statement}
 use Rattle.lines.proofs.channels_line.Tie as tie
@@ -32,7 +32,7 @@ no-channels-requires-2 c κs = search needs
 
 returns-2 : tie.Need-returns-2
 unfolding channelsLine
-returns-2 c = rw (c .no-channels2 .ensures, ← c .before .before .before .before .before .before .before .field-count .ensures, eq-eqb _ 3 (c .before .before .before .before .before .before .if1 .left), ← c .before .before .before .before .before .field-at .ensures, ← c .before .before .before .before .read-count-in .ensures, ← c .before .before .before .value-of .ensures, ne-eqb _ 0 (c .before .if2 .taken))
+returns-2 c = rw (c .no-channels2 .ensures, ← c .before .before .before .before .before .before .before .field-count .ensures, eq-eqb _ 3 (c .before .before .before .before .before .before .if1 .left), ← c .before .before .before .before .before .field-at .ensures, ← c .before .before .before .before .read-count-in .ensures, number-is 1 _, ← c .before .before .before .value-of .ensures, ne-eqb _ 0 (c .before .if2 .taken))
 
 field-at-requires-2 : tie.Need-field-at-requires-2
 field-at-requires-2 c κs = search needs
@@ -48,7 +48,7 @@ no-channels-requires-3 c κs = search needs
 
 returns-3 : tie.Need-returns-3
 unfolding channelsLine
-returns-3 c = rw (c .no-channels3 .ensures, ← c .before .before .before .before .before .before .before .before .before .before .before .before .field-count .ensures, eq-eqb _ 3 (c .before .before .before .before .before .before .before .before .before .before .before .if1 .left), ← c .before .before .before .before .before .before .before .before .before .before .field-at .ensures, ← c .before .before .before .before .before .before .before .before .before .read-count-in .ensures, ← c .before .before .before .before .before .before .before .before .value-of .ensures, eq-eqb _ 0 (c .before .before .before .before .before .before .if2 .left), ← c .before .before .before .before .before .field-at2 .ensures, ← c .before .before .before .before .read-lettered .ensures, ← c .before .before .before .value-of2 .ensures, ne-eqb _ 0 (c .before .if3 .taken))
+returns-3 c = rw (c .no-channels3 .ensures, ← c .before .before .before .before .before .before .before .before .before .before .before .before .field-count .ensures, eq-eqb _ 3 (c .before .before .before .before .before .before .before .before .before .before .before .if1 .left), ← c .before .before .before .before .before .before .before .before .before .before .field-at .ensures, ← c .before .before .before .before .before .before .before .before .before .read-count-in .ensures, number-is 1 _, ← c .before .before .before .before .before .before .before .before .value-of .ensures, eq-eqb _ 0 (c .before .before .before .before .before .before .if2 .left), ← c .before .before .before .before .before .field-at2 .ensures, ← c .before .before .before .before .read-lettered .ensures, number-is 2 _, ← c .before .before .before .value-of2 .ensures, ne-eqb _ 0 (c .before .if3 .taken))
 
 field-at-requires-3 : tie.Need-field-at-requires-3
 field-at-requires-3 c κs = search needs
@@ -64,7 +64,7 @@ no-channels-requires-4 c κs = search needs
 
 returns-4 : tie.Need-returns-4
 unfolding channelsLine
-returns-4 c = rw (c .no-channels4 .ensures, ← c .before .before .before .before .before .before .before .before .before .before .before .before .before .before .before .before .before .field-count .ensures, eq-eqb _ 3 (c .before .before .before .before .before .before .before .before .before .before .before .before .before .before .before .before .if1 .left), ← c .before .before .before .before .before .before .before .before .before .before .before .before .before .before .before .field-at .ensures, ← c .before .before .before .before .before .before .before .before .before .before .before .before .before .before .read-count-in .ensures, ← c .before .before .before .before .before .before .before .before .before .before .before .before .before .value-of .ensures, eq-eqb _ 0 (c .before .before .before .before .before .before .before .before .before .before .before .if2 .left), ← c .before .before .before .before .before .before .before .before .before .before .field-at2 .ensures, ← c .before .before .before .before .before .before .before .before .before .read-lettered .ensures, ← c .before .before .before .before .before .before .before .before .value-of2 .ensures, eq-eqb _ 0 (c .before .before .before .before .before .before .if3 .left), ← c .before .before .before .before .before .field-at3 .ensures, ← c .before .before .before .before .read-lettered2 .ensures, ← c .before .before .before .value-of3 .ensures, ne-eqb _ 0 (c .before .if4 .taken))
+returns-4 c = rw (c .no-channels4 .ensures, ← c .before .before .before .before .before .before .before .before .before .before .before .before .before .before .before .before .before .field-count .ensures, eq-eqb _ 3 (c .before .before .before .before .before .before .before .before .before .before .before .before .before .before .before .before .if1 .left), ← c .before .before .before .before .before .before .before .before .before .before .before .before .before .before .before .field-at .ensures, ← c .before .before .before .before .before .before .before .before .before .before .before .before .before .before .read-count-in .ensures, number-is 1 _, ← c .before .before .before .before .before .before .before .before .before .before .before .before .before .value-of .ensures, eq-eqb _ 0 (c .before .before .before .before .before .before .before .before .before .before .before .if2 .left), ← c .before .before .before .before .before .before .before .before .before .before .field-at2 .ensures, ← c .before .before .before .before .before .before .before .before .before .read-lettered .ensures, number-is 2 _, ← c .before .before .before .before .before .before .before .before .value-of2 .ensures, eq-eqb _ 0 (c .before .before .before .before .before .before .if3 .left), ← c .before .before .before .before .before .field-at3 .ensures, ← c .before .before .before .before .read-lettered2 .ensures, number-is 3 _, ← c .before .before .before .value-of3 .ensures, ne-eqb _ 0 (c .before .if4 .taken))
 
 add-if5 : tie.Need-add-if5
 add-if5 c =
@@ -77,14 +77,14 @@ no-channels-requires-5 c κs = search needs
 
 returns-5 : tie.Need-returns-5
 unfolding channelsLine
-returns-5 c = rw (c .no-channels5 .ensures, ← c .before .before .before .before .before .before .before .before .before .before .before .before .before .before .before .before .before .before .before .before .before .field-count .ensures, eq-eqb _ 3 (c .before .before .before .before .before .before .before .before .before .before .before .before .before .before .before .before .before .before .before .before .if1 .left), ← c .before .before .before .before .before .before .before .before .before .before .before .before .before .before .before .before .before .before .before .field-at .ensures, ← c .before .before .before .before .before .before .before .before .before .before .before .before .before .before .before .before .before .before .read-count-in .ensures, ← c .before .before .before .before .before .before .before .before .before .before .before .before .before .before .before .before .before .value-of .ensures, eq-eqb _ 0 (c .before .before .before .before .before .before .before .before .before .before .before .before .before .before .before .if2 .left), ← c .before .before .before .before .before .before .before .before .before .before .before .before .before .before .field-at2 .ensures, ← c .before .before .before .before .before .before .before .before .before .before .before .before .before .read-lettered .ensures, ← c .before .before .before .before .before .before .before .before .before .before .before .before .value-of2 .ensures, eq-eqb _ 0 (c .before .before .before .before .before .before .before .before .before .before .if3 .left), ← c .before .before .before .before .before .before .before .before .before .field-at3 .ensures, ← c .before .before .before .before .before .before .before .before .read-lettered2 .ensures, ← c .before .before .before .before .before .before .before .value-of3 .ensures, eq-eqb _ 0 (c .before .before .before .before .before .if4 .left), ne-eqb _ _ (c .before .if5 .taken))
+returns-5 c = rw (c .no-channels5 .ensures, ← c .before .before .before .before .before .before .before .before .before .before .before .before .before .before .before .before .before .before .before .before .before .field-count .ensures, eq-eqb _ 3 (c .before .before .before .before .before .before .before .before .before .before .before .before .before .before .before .before .before .before .before .before .if1 .left), ← c .before .before .before .before .before .before .before .before .before .before .before .before .before .before .before .before .before .before .before .field-at .ensures, ← c .before .before .before .before .before .before .before .before .before .before .before .before .before .before .before .before .before .before .read-count-in .ensures, number-is 1 _, ← c .before .before .before .before .before .before .before .before .before .before .before .before .before .before .before .before .before .value-of .ensures, eq-eqb _ 0 (c .before .before .before .before .before .before .before .before .before .before .before .before .before .before .before .if2 .left), ← c .before .before .before .before .before .before .before .before .before .before .before .before .before .before .field-at2 .ensures, ← c .before .before .before .before .before .before .before .before .before .before .before .before .before .read-lettered .ensures, number-is 2 _, ← c .before .before .before .before .before .before .before .before .before .before .before .before .value-of2 .ensures, eq-eqb _ 0 (c .before .before .before .before .before .before .before .before .before .before .if3 .left), ← c .before .before .before .before .before .before .before .before .before .field-at3 .ensures, ← c .before .before .before .before .before .before .before .before .read-lettered2 .ensures, number-is 3 _, ← c .before .before .before .before .before .before .before .value-of3 .ensures, eq-eqb _ 0 (c .before .before .before .before .before .if4 .left), ne-eqb _ _ (c .before .if5 .taken))
 
 at-requires : tie.Need-at-requires
 at-requires c κs = search needs
 
 returns-6 : tie.Need-returns-6
 unfolding channelsLine
-returns-6 c = rw (c .at .ensures, ← c .before .before .before .before .before .before .before .before .before .before .before .before .before .before .before .before .before .before .before .before .before .field-count .ensures, eq-eqb _ 3 (c .before .before .before .before .before .before .before .before .before .before .before .before .before .before .before .before .before .before .before .before .if1 .left), ← c .before .before .before .before .before .before .before .before .before .before .before .before .before .before .before .before .before .before .before .field-at .ensures, ← c .before .before .before .before .before .before .before .before .before .before .before .before .before .before .before .before .before .before .read-count-in .ensures, ← c .before .before .before .before .before .before .before .before .before .before .before .before .before .before .before .before .before .value-of .ensures, eq-eqb _ 0 (c .before .before .before .before .before .before .before .before .before .before .before .before .before .before .before .if2 .left), ← c .before .before .before .before .before .before .before .before .before .before .before .before .before .before .field-at2 .ensures, ← c .before .before .before .before .before .before .before .before .before .before .before .before .before .read-lettered .ensures, ← c .before .before .before .before .before .before .before .before .before .before .before .before .value-of2 .ensures, eq-eqb _ 0 (c .before .before .before .before .before .before .before .before .before .before .if3 .left), ← c .before .before .before .before .before .before .before .before .before .field-at3 .ensures, ← c .before .before .before .before .before .before .before .before .read-lettered2 .ensures, ← c .before .before .before .before .before .before .before .value-of3 .ensures, eq-eqb _ 0 (c .before .before .before .before .before .if4 .left), eq-eqb _ _ (c .before .if5 .left))
+returns-6 c = rw (c .at .ensures, ← c .before .before .before .before .before .before .before .before .before .before .before .before .before .before .before .before .before .before .before .before .before .field-count .ensures, eq-eqb _ 3 (c .before .before .before .before .before .before .before .before .before .before .before .before .before .before .before .before .before .before .before .before .if1 .left), ← c .before .before .before .before .before .before .before .before .before .before .before .before .before .before .before .before .before .before .before .field-at .ensures, ← c .before .before .before .before .before .before .before .before .before .before .before .before .before .before .before .before .before .before .read-count-in .ensures, number-is 1 _, ← c .before .before .before .before .before .before .before .before .before .before .before .before .before .before .before .before .before .value-of .ensures, eq-eqb _ 0 (c .before .before .before .before .before .before .before .before .before .before .before .before .before .before .before .if2 .left), ← c .before .before .before .before .before .before .before .before .before .before .before .before .before .before .field-at2 .ensures, ← c .before .before .before .before .before .before .before .before .before .before .before .before .before .read-lettered .ensures, number-is 2 _, ← c .before .before .before .before .before .before .before .before .before .before .before .before .value-of2 .ensures, eq-eqb _ 0 (c .before .before .before .before .before .before .before .before .before .before .if3 .left), ← c .before .before .before .before .before .before .before .before .before .field-at3 .ensures, ← c .before .before .before .before .before .before .before .before .read-lettered2 .ensures, number-is 3 _, ← c .before .before .before .before .before .before .before .value-of3 .ensures, eq-eqb _ 0 (c .before .before .before .before .before .if4 .left), eq-eqb _ _ (c .before .if5 .left))
 
 pub channels-line-spec : {M : Type 1} → statement M
 channels-line-spec =

@@ -3,7 +3,8 @@ use mir.Syntax.{w64}
 use mir.Val.{toZ, ofZ}
 use borrow.Author.Tests.{eq-eqb, ne-eqb}
 use mathlib.Core.Path.{_≡_}
-use Rattle.lines.specs.Lines.{codesLine, withLocal}
+use Rattle.lines.specs.Lines.{codesLine}
+use Rattle.lines.specs.Inner.{withLocal}
 use borrow.Author.Needs.{needs}
 use Rattle.lines.proofs.codes_line.Statement.{statement}
 use Rattle.lines.proofs.codes_line.Tie as tie

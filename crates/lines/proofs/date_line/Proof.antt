@@ -1,6 +1,7 @@
 -- `date_line` meets its contract.
 use borrow.Author.Tests.{eq-eqb, ne-eqb}
-use Rattle.lines.specs.Lines.{dateLine, withTime}
+use Rattle.lines.specs.Lines.{dateLine}
+use Rattle.lines.specs.Inner.{withTime}
 use borrow.Author.Needs.{needs}
 use Rattle.lines.proofs.date_line.Statement.{statement}
 use Rattle.lines.proofs.date_line.Tie as tie

@@ -1,6 +1,7 @@
 -- `limits_fault` meets its contract.
 use mathlib.Core.Path.{sym, _∙_}
-use Rattle.lines.specs.Lines.{limitsFault, maxFault}
+use Rattle.lines.specs.Lines.{limits}
+use Rattle.lines.specs.Inner.{maxFrom}
 use Rattle.reals.proofs.LimitLaws.{limit-sound}
 use borrow.Author.Needs.{needs}
 use Rattle.lines.proofs.limits_fault.Statement.{statement}
@@ -34,15 +35,15 @@ max-fault-requires : tie.Need-max-fault-requires
 max-fault-requires c κs = limit-sound _ (c .before .before .min .given .0 .0) (sym (c .before .before .before .before .read-limit .ensures) ∙ c .before .before .min .given .1)
 
 returns : tie.Need-returns
-unfolding limitsFault
+unfolding limits
 returns c = rw (c .at .ensures, ← c .before .before .before .before .field-at .ensures, ← c .before .before .before .read-limit .ensures, c .before .enum-told .given .1)
 
 returns-2 : tie.Need-returns-2
-unfolding limitsFault
+unfolding limits
 returns-2 c = rw (c .at2 .ensures, ← c .before .before .before .before .field-at .ensures, ← c .before .before .before .read-limit .ensures, c .before .enum-told2 .given .1)
 
 returns-3 : tie.Need-returns-3
-unfolding limitsFault maxFault
+unfolding limits maxFrom
 returns-3 c = rw (c .max-fault .ensures, ← c .before .before .before .before .before .before .field-at .ensures, ← c .before .before .before .before .before .read-limit .ensures, c .before .before .before .min .given .1, ← c .before .field-at2 .ensures)
 
 pub limits-fault-spec : {M : Type 1} → statement M

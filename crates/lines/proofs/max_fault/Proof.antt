@@ -1,6 +1,6 @@
 -- `max_fault` meets its contract.
 use mathlib.Core.Path.{sym, _∙_}
-use Rattle.lines.specs.Lines.{maxFault}
+use Rattle.lines.specs.Inner.{maxFrom}
 use Rattle.reals.proofs.LimitLaws.{limit-sound}
 use borrow.Author.Needs.{needs}
 use Rattle.lines.proofs.max_fault.Statement.{statement}
@@ -31,22 +31,22 @@ at-requires-3 : tie.Need-at-requires-3
 at-requires-3 c κs = search needs
 
 returns : tie.Need-returns
-unfolding maxFault
+unfolding maxFrom
 returns c = rw (c .at3 .ensures, ← c .before .before .before .before .before .before .read-limit .ensures, c .before .before .before .before .max .given .1, ← c .before .before .max-below .ensures, c .before .if1 .taken)
 
 at-requires-4 : tie.Need-at-requires-4
 at-requires-4 c κs = search needs
 
 returns-2 : tie.Need-returns-2
-unfolding maxFault
+unfolding maxFrom
 returns-2 c = rw (c .at .ensures, ← c .before .before .before .read-limit .ensures, c .before .enum-told .given .1)
 
 returns-3 : tie.Need-returns-3
-unfolding maxFault
+unfolding maxFrom
 returns-3 c = rw (c .at2 .ensures, ← c .before .before .before .read-limit .ensures, c .before .enum-told2 .given .1)
 
 returns-4 : tie.Need-returns-4
-unfolding maxFault
+unfolding maxFrom
 returns-4 c = rw (c .at4 .ensures, ← c .before .before .before .before .before .before .read-limit .ensures, c .before .before .before .before .max .given .1, ← c .before .before .max-below .ensures, c .before .if1 .left)
 
 pub max-fault-spec : {M : Type 1} → statement M

@@ -1,6 +1,7 @@
 -- `quality_line` meets its contract.
 use borrow.Author.Tests.{eq-eqb, ne-eqb}
 use Rattle.lines.specs.Lines.{qualityLine}
+use Rattle.lines.proofs.Laws.{number-is}
 use borrow.Author.Needs.{needs}
 use Rattle.lines.proofs.quality_line.Statement.{statement}
 use Rattle.lines.proofs.quality_line.Tie as tie
@@ -29,7 +30,7 @@ quality-of-requires-2 c κs = search needs
 
 returns-2 : tie.Need-returns-2
 unfolding qualityLine
-returns-2 c = rw (c .quality-of2 .ensures, ← c .before .before .before .before .before .before .before .field-count .ensures, eq-eqb _ 2 (c .before .before .before .before .before .before .if1 .left), ← c .before .before .before .before .before .field-at .ensures, ← c .before .before .before .before .read-quality .ensures, ← c .before .before .before .value-of .ensures, ne-eqb _ 0 (c .before .if2 .taken))
+returns-2 c = rw (c .quality-of2 .ensures, ← c .before .before .before .before .before .before .before .field-count .ensures, eq-eqb _ 2 (c .before .before .before .before .before .before .if1 .left), ← c .before .before .before .before .before .field-at .ensures, ← c .before .before .before .before .read-quality .ensures, number-is 1 _, ← c .before .before .before .value-of .ensures, ne-eqb _ 0 (c .before .if2 .taken))
 
 field-at-requires-2 : tie.Need-field-at-requires-2
 field-at-requires-2 c κs = search needs
@@ -45,14 +46,14 @@ quality-of-requires-3 c κs = search needs
 
 returns-3 : tie.Need-returns-3
 unfolding qualityLine
-returns-3 c = rw (c .quality-of3 .ensures, ← c .before .before .before .before .before .before .before .before .before .before .before .before .field-count .ensures, eq-eqb _ 2 (c .before .before .before .before .before .before .before .before .before .before .before .if1 .left), ← c .before .before .before .before .before .before .before .before .before .before .field-at .ensures, ← c .before .before .before .before .before .before .before .before .before .read-quality .ensures, ← c .before .before .before .before .before .before .before .before .value-of .ensures, eq-eqb _ 0 (c .before .before .before .before .before .before .if2 .left), ← c .before .before .before .before .before .field-at2 .ensures, ← c .before .before .before .before .read-leap .ensures, ← c .before .before .before .value-of2 .ensures, ne-eqb _ 0 (c .before .if3 .taken))
+returns-3 c = rw (c .quality-of3 .ensures, ← c .before .before .before .before .before .before .before .before .before .before .before .before .field-count .ensures, eq-eqb _ 2 (c .before .before .before .before .before .before .before .before .before .before .before .if1 .left), ← c .before .before .before .before .before .before .before .before .before .before .field-at .ensures, ← c .before .before .before .before .before .before .before .before .before .read-quality .ensures, number-is 1 _, ← c .before .before .before .before .before .before .before .before .value-of .ensures, eq-eqb _ 0 (c .before .before .before .before .before .before .if2 .left), ← c .before .before .before .before .before .field-at2 .ensures, ← c .before .before .before .before .read-leap .ensures, number-is 2 _, ← c .before .before .before .value-of2 .ensures, ne-eqb _ 0 (c .before .if3 .taken))
 
 quality-of-requires-4 : tie.Need-quality-of-requires-4
 quality-of-requires-4 c κs = search needs
 
 returns-4 : tie.Need-returns-4
 unfolding qualityLine
-returns-4 c = rw (c .quality-of4 .ensures, ← c .before .before .before .before .before .before .before .before .before .before .before .before .field-count .ensures, eq-eqb _ 2 (c .before .before .before .before .before .before .before .before .before .before .before .if1 .left), ← c .before .before .before .before .before .before .before .before .before .before .field-at .ensures, ← c .before .before .before .before .before .before .before .before .before .read-quality .ensures, ← c .before .before .before .before .before .before .before .before .value-of .ensures, eq-eqb _ 0 (c .before .before .before .before .before .before .if2 .left), ← c .before .before .before .before .before .field-at2 .ensures, ← c .before .before .before .before .read-leap .ensures, ← c .before .before .before .value-of2 .ensures, eq-eqb _ 0 (c .before .if3 .left))
+returns-4 c = rw (c .quality-of4 .ensures, ← c .before .before .before .before .before .before .before .before .before .before .before .before .field-count .ensures, eq-eqb _ 2 (c .before .before .before .before .before .before .before .before .before .before .before .if1 .left), ← c .before .before .before .before .before .before .before .before .before .before .field-at .ensures, ← c .before .before .before .before .before .before .before .before .before .read-quality .ensures, number-is 1 _, ← c .before .before .before .before .before .before .before .before .value-of .ensures, eq-eqb _ 0 (c .before .before .before .before .before .before .if2 .left), ← c .before .before .before .before .before .field-at2 .ensures, ← c .before .before .before .before .read-leap .ensures, number-is 2 _, ← c .before .before .before .value-of2 .ensures, eq-eqb _ 0 (c .before .if3 .left))
 
 pub quality-line-spec : {M : Type 1} → statement M
 quality-line-spec =

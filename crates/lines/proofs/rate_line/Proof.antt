@@ -1,6 +1,7 @@
 -- `rate_line` meets its contract.
 use borrow.Author.Tests.{eq-eqb, ne-eqb, lt-ltb, le-ltb}
 use Rattle.lines.specs.Lines.{rateLine}
+use Rattle.lines.proofs.Laws.{number-is}
 use borrow.Author.Needs.{needs}
 use Rattle.lines.proofs.rate_line.Statement.{statement}
 use Rattle.lines.proofs.rate_line.Tie as tie
@@ -42,21 +43,21 @@ count-said-requires-3 c κs = search needs
 
 returns-3 : tie.Need-returns-3
 unfolding rateLine
-returns-3 c = rw (c .count-said3 .ensures, ← c .before .before .before .before .before .before .before .before .before .before .field-count .ensures, eq-eqb _ 2 (c .before .before .before .before .before .before .before .before .before .if1 .left), ← c .before .before .before .before .before .before .before .before .field-at .ensures, ← c .before .before .before .before .before .before .before .rate-fault .ensures, eq-eqb _ 0 (c .before .before .before .before .before .before .if2 .left), ← c .before .before .before .before .before .field-at2 .ensures, ← c .before .before .before .before .read-count-in .ensures, ← c .before .before .before .value-of .ensures, ne-eqb _ 0 (c .before .if3 .taken))
+returns-3 c = rw (c .count-said3 .ensures, ← c .before .before .before .before .before .before .before .before .before .before .field-count .ensures, eq-eqb _ 2 (c .before .before .before .before .before .before .before .before .before .if1 .left), ← c .before .before .before .before .before .before .before .before .field-at .ensures, ← c .before .before .before .before .before .before .before .rate-fault .ensures, eq-eqb _ 0 (c .before .before .before .before .before .before .if2 .left), ← c .before .before .before .before .before .field-at2 .ensures, ← c .before .before .before .before .read-count-in .ensures, number-is 2 _, ← c .before .before .before .value-of .ensures, ne-eqb _ 0 (c .before .if3 .taken))
 
 count-said-requires-4 : tie.Need-count-said-requires-4
 count-said-requires-4 c κs = search needs
 
 returns-4 : tie.Need-returns-4
 unfolding rateLine
-returns-4 c = rw (c .count-said4 .ensures, ← c .before .before .before .before .before .before .before .before .before .before .before .before .field-count .ensures, eq-eqb _ 2 (c .before .before .before .before .before .before .before .before .before .before .before .if1 .left), ← c .before .before .before .before .before .before .before .before .before .before .field-at .ensures, ← c .before .before .before .before .before .before .before .before .before .rate-fault .ensures, eq-eqb _ 0 (c .before .before .before .before .before .before .before .before .if2 .left), ← c .before .before .before .before .before .before .before .field-at2 .ensures, ← c .before .before .before .before .before .before .read-count-in .ensures, ← c .before .before .before .before .before .value-of .ensures, eq-eqb _ 0 (c .before .before .before .if3 .left), le-ltb _ _ (c .before .if4 .taken))
+returns-4 c = rw (c .count-said4 .ensures, ← c .before .before .before .before .before .before .before .before .before .before .before .before .field-count .ensures, eq-eqb _ 2 (c .before .before .before .before .before .before .before .before .before .before .before .if1 .left), ← c .before .before .before .before .before .before .before .before .before .before .field-at .ensures, ← c .before .before .before .before .before .before .before .before .before .rate-fault .ensures, eq-eqb _ 0 (c .before .before .before .before .before .before .before .before .if2 .left), ← c .before .before .before .before .before .before .before .field-at2 .ensures, ← c .before .before .before .before .before .before .read-count-in .ensures, number-is 2 _, ← c .before .before .before .before .before .value-of .ensures, eq-eqb _ 0 (c .before .before .before .if3 .left), le-ltb _ _ (c .before .if4 .taken))
 
 count-said-requires-5 : tie.Need-count-said-requires-5
 count-said-requires-5 c κs = search needs
 
 returns-5 : tie.Need-returns-5
 unfolding rateLine
-returns-5 c = rw (c .count-said5 .ensures, ← c .before .before .before .before .before .before .before .before .before .before .before .before .field-count .ensures, eq-eqb _ 2 (c .before .before .before .before .before .before .before .before .before .before .before .if1 .left), ← c .before .before .before .before .before .before .before .before .before .before .field-at .ensures, ← c .before .before .before .before .before .before .before .before .before .rate-fault .ensures, eq-eqb _ 0 (c .before .before .before .before .before .before .before .before .if2 .left), ← c .before .before .before .before .before .before .before .field-at2 .ensures, ← c .before .before .before .before .before .before .read-count-in .ensures, ← c .before .before .before .before .before .value-of .ensures, eq-eqb _ 0 (c .before .before .before .if3 .left), lt-ltb _ _ (c .before .if4 .left))
+returns-5 c = rw (c .count-said5 .ensures, ← c .before .before .before .before .before .before .before .before .before .before .before .before .field-count .ensures, eq-eqb _ 2 (c .before .before .before .before .before .before .before .before .before .before .before .if1 .left), ← c .before .before .before .before .before .before .before .before .before .before .field-at .ensures, ← c .before .before .before .before .before .before .before .before .before .rate-fault .ensures, eq-eqb _ 0 (c .before .before .before .before .before .before .before .before .if2 .left), ← c .before .before .before .before .before .before .before .field-at2 .ensures, ← c .before .before .before .before .before .before .read-count-in .ensures, number-is 2 _, ← c .before .before .before .before .before .value-of .ensures, eq-eqb _ 0 (c .before .before .before .if3 .left), lt-ltb _ _ (c .before .if4 .left))
 
 pub rate-line-spec : {M : Type 1} → statement M
 rate-line-spec =

@@ -1,6 +1,7 @@
 -- `rates_line` meets its contract.
 use borrow.Author.Tests.{eq-eqb, ne-eqb}
 use Rattle.lines.specs.Lines.{ratesLine}
+use Rattle.lines.proofs.Laws.{number-is}
 use borrow.Author.Needs.{needs}
 use Rattle.lines.proofs.rates_line.Statement.{statement}
 use Rattle.lines.proofs.rates_line.Tie as tie
@@ -29,14 +30,14 @@ count-said-requires-2 c κs = search needs
 
 returns-2 : tie.Need-returns-2
 unfolding ratesLine
-returns-2 c = rw (c .count-said2 .ensures, ← c .before .before .before .before .before .before .before .field-count .ensures, eq-eqb _ 1 (c .before .before .before .before .before .before .if1 .left), ← c .before .before .before .before .before .field-at .ensures, ← c .before .before .before .before .read-count-in .ensures, ← c .before .before .before .value-of .ensures, ne-eqb _ 0 (c .before .if2 .taken))
+returns-2 c = rw (c .count-said2 .ensures, ← c .before .before .before .before .before .before .before .field-count .ensures, eq-eqb _ 1 (c .before .before .before .before .before .before .if1 .left), ← c .before .before .before .before .before .field-at .ensures, ← c .before .before .before .before .read-count-in .ensures, number-is 1 _, ← c .before .before .before .value-of .ensures, ne-eqb _ 0 (c .before .if2 .taken))
 
 count-said-requires-3 : tie.Need-count-said-requires-3
 count-said-requires-3 c κs = search needs
 
 returns-3 : tie.Need-returns-3
 unfolding ratesLine
-returns-3 c = rw (c .count-said3 .ensures, ← c .before .before .before .before .before .before .before .field-count .ensures, eq-eqb _ 1 (c .before .before .before .before .before .before .if1 .left), ← c .before .before .before .before .before .field-at .ensures, ← c .before .before .before .before .read-count-in .ensures, ← c .before .before .before .value-of .ensures, eq-eqb _ 0 (c .before .if2 .left))
+returns-3 c = rw (c .count-said3 .ensures, ← c .before .before .before .before .before .before .before .field-count .ensures, eq-eqb _ 1 (c .before .before .before .before .before .before .if1 .left), ← c .before .before .before .before .before .field-at .ensures, ← c .before .before .before .before .read-count-in .ensures, number-is 1 _, ← c .before .before .before .value-of .ensures, eq-eqb _ 0 (c .before .if2 .left))
 
 pub rates-line-spec : {M : Type 1} → statement M
 rates-line-spec =

@@ -1,6 +1,7 @@
 -- `status_line` meets its contract: each return follows from the checks before it.
 use borrow.Author.Tests.{eq-eqb, ne-eqb}
 use Rattle.lines.specs.Lines.{statusLine}
+use Rattle.lines.proofs.NumberLaws.{names-is}
 use borrow.Author.Needs.{needs}
 use Rattle.lines.proofs.status_line.Statement.{statement}
 use Rattle.lines.proofs.status_line.Tie as tie
@@ -10,7 +11,7 @@ names-fault-requires c κs = search needs
 
 returns : tie.Need-returns
 unfolding statusLine
-returns c = rw (← c .before .before .names-fault .ensures, ne-eqb _ 0 (c .if1 .taken))
+returns c = rw (names-is 5 _ _, ← c .before .before .names-fault .ensures, ne-eqb _ 0 (c .if1 .taken))
 
 field-at-requires : tie.Need-field-at-requires
 field-at-requires c κs = search needs
@@ -23,14 +24,14 @@ at-requires c κs = search needs
 
 returns-2 : tie.Need-returns-2
 unfolding statusLine
-returns-2 c = rw (c .at .ensures, ← c .before .before .before .before .before .before .names-fault .ensures, eq-eqb _ 0 (c .before .before .before .before .if1 .left), ← c .before .before .before .field-at .ensures, ← c .before .before .state-fault .ensures, ne-eqb _ 0 (c .before .if2 .taken))
+returns-2 c = rw (c .at .ensures, names-is 5 _ _, ← c .before .before .before .before .before .before .names-fault .ensures, eq-eqb _ 0 (c .before .before .before .before .if1 .left), ← c .before .before .before .field-at .ensures, ← c .before .before .state-fault .ensures, ne-eqb _ 0 (c .before .if2 .taken))
 
 at-requires-2 : tie.Need-at-requires-2
 at-requires-2 c κs = search needs
 
 returns-3 : tie.Need-returns-3
 unfolding statusLine
-returns-3 c = rw (c .at2 .ensures, ← c .before .before .before .before .before .before .names-fault .ensures, eq-eqb _ 0 (c .before .before .before .before .if1 .left), ← c .before .before .before .field-at .ensures, ← c .before .before .state-fault .ensures, eq-eqb _ 0 (c .before .if2 .left))
+returns-3 c = rw (c .at2 .ensures, names-is 5 _ _, ← c .before .before .before .before .before .before .names-fault .ensures, eq-eqb _ 0 (c .before .before .before .before .if1 .left), ← c .before .before .before .field-at .ensures, ← c .before .before .state-fault .ensures, eq-eqb _ 0 (c .before .if2 .left))
 
 pub status-line-spec : {M : Type 1} → statement M
 status-line-spec =

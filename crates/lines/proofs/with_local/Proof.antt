@@ -3,7 +3,7 @@ use mir.Syntax.{w64}
 use mir.Val.{toZ, ofZ}
 use mir.ValLaws.{toZ-ofZ}
 use mathlib.Core.Path.{_≡_}
-use Rattle.lines.specs.Lines.{withLocal}
+use Rattle.lines.specs.Inner.{withLocal}
 use borrow.Author.Needs.{needs}
 use Rattle.lines.proofs.with_local.Statement.{statement}
 use Rattle.lines.proofs.with_local.Tie as tie

@@ -1,5 +1,5 @@
 -- `with_time` meets its contract.
-use Rattle.lines.specs.Lines.{withTime}
+use Rattle.lines.specs.Inner.{withTime}
 use borrow.Author.Needs.{needs}
 use Rattle.lines.proofs.with_time.Statement.{statement}
 use Rattle.lines.proofs.with_time.Tie as tie

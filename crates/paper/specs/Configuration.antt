@@ -1,0 +1,99 @@
+-- READ THIS FIRST. What a configuration is and what it shows (here), the data files (Data), a configuration's lines (Lines), their fields (Fields). No reader stands in these four files.
+-- demands/proofs/Demands.antt proves that read_config, check and show_row accept exactly these and show exactly this. Not said here: which refusal a file gets that is none of these (config/specs/Config.antt, read from the top).
+use mathlib.Core.Path.{_≡_}
+use mathlib.Core.Logic.{_⊎_}
+use mathlib.Core.List.{List, [], _∷_, _++_}
+use Prim.Native.Nat.{ℕ, zero, suc, _+_, _-_, _*_, _≤_, _<_, max}
+use lib.IntN.{ℤ, pos, _+ℤ_, _*ℤ_}
+use lib.ListN.{length, replicate, take}
+use Rattle.lists.specs.Quoted.{quoted}
+use Rattle.clock.specs.declared.Date.{Date}
+use Rattle.clock.specs.declared.Span.{Span}
+use Rattle.reals.specs.declared.Real.{Real}
+use Rattle.rules.specs.declared.Moment.{Moment}
+use Rattle.rules.specs.declared.Config.{Config}
+use Rattle.paper.specs.Fields.{monthDays}
+use Rattle.paper.specs.Lines.{Line, ended, StationLine, ChannelsLine, AnalogLine, StatusLine, FrequencyLine, RatesLine, rateSign, RateLine, DateLine, KindLine, MultiplierLine, CodesLine, QualityLine}
+
+-- t is m lines, each with its CR LF, the first of them P of i, the next P of i + 1, ..
+abbrev pub Lines : (ℕ → List ℕ → Type 0) → ℕ → ℕ → List ℕ → Type 0
+Lines P i zero t = t ≡ []
+Lines P i (suc m) t = (l : List ℕ) × (u : List ℕ) × (t ≡ ended l ++ u) × Line (P i) l × Lines P (i + 1) m u
+
+-- t is the lines of rates with these last rows, each above the one before
+abbrev pub RateLines : Real → ℕ → List ℕ → List ℕ → Type 0
+RateLines sign before [] t = t ≡ []
+RateLines sign before (last ∷ lasts) t = (l : List ℕ) × (u : List ℕ) × (t ≡ ended l ++ u) × Line (RateLine sign before last) l × RateLines sign last lasts u
+
+-- a sum
+abbrev pub sum : List ℕ → ℕ
+sum [] = 0
+sum (n ∷ l) = n + sum l
+
+-- the days of the years 1 to y
+unfoldable pub daysOfYears : ℕ → ℕ
+daysOfYears zero = 0
+daysOfYears (suc y) = daysOfYears y + sum (monthDays (suc y))
+
+-- the number of a day: those of the years before, of the months before, and the day itself
+unfoldable pub dayNumber : Date → ℕ
+dayNumber x = daysOfYears (x .year - 1) + sum (take (x .month - 1) (monthDays (x .year))) + x .day
+
+-- a moment in nanoseconds: 24 hours of 60 minutes of 60 seconds a day
+unfoldable pub instant : Moment → ℕ
+instant m = (((dayNumber (m .date) * 24 + m .time .hour) * 60 + m .time .minute) * 60 + m .time .second) * 1000000000 + m .time .nanosecond
+
+-- the pre-trigger time p: first sample and p make the trigger, and p's nanoseconds are less than a second, so that its seconds are rounded down
+pub record PreTrigger (first trigger : Moment) (p : Span) : Type 0 where
+  pub apart : pos (instant first) +ℤ (p .seconds *ℤ pos 1000000000 +ℤ pos (p .nanoseconds)) ≡ pos (instant trigger)
+  pub below : p .nanoseconds < 1000000000
+
+-- THE CONFIGURATION. The bytes s are one, and it shows c. Numbers are those of the rules' list, line by line.
+pub record Configuration (s : List ℕ) (c : Config) : Type 0 where
+  -- 1: station, device, year
+  pub l1 : List ℕ
+  pub station : Line StationLine l1
+  -- 2: TT, A, D
+  pub l2 : List ℕ
+  pub channels : Line (ChannelsLine (c .analogs) (c .statuses)) l2
+  -- 3: A analog lines, from index 1
+  pub t3 : List ℕ
+  pub analogs : Lines AnalogLine 1 (c .analogs) t3
+  -- 4: D status lines, from index 1
+  pub t4 : List ℕ
+  pub statuses : Lines StatusLine 1 (c .statuses) t4
+  -- 5: line frequency
+  pub l5 : List ℕ
+  pub frequency : Line FrequencyLine l5
+  -- 6: number of rates, and a line for each; with 0 rates one line whose rate is zero. The last rows are shown, zeros after them; the last of them is the number of rows
+  pub l6 : List ℕ
+  pub rates : Line (RatesLine (c .rates)) l6
+  pub lasts : List ℕ
+  pub t6 : List ℕ
+  pub rateLines : RateLines (rateSign (c .rates)) 0 lasts t6
+  pub rateCount : length lasts ≡ max 1 (c .rates)
+  pub lastsShown : c .lasts ≡ lasts ++ replicate (8 - length lasts) 0
+  pub rows : (others : List ℕ) × (lasts ≡ others ++ c .rows ∷ [])
+  -- 7: first sample, trigger, and the time between them
+  pub l7 : List ℕ
+  pub first : Line (DateLine (c .first)) l7
+  pub m7 : List ℕ
+  pub trigger : Line (DateLine (c .trigger)) m7
+  pub pretrigger : PreTrigger (c .first) (c .trigger) (c .pretrigger)
+  -- 8: kind
+  pub l8 : List ℕ
+  pub kind : Line (KindLine (c .kind)) l8
+  -- 9: time multiplier
+  pub l9 : List ℕ
+  pub multiplier : Line MultiplierLine l9
+  -- 10: time code, local code
+  pub l10 : List ℕ
+  pub codes : Line (CodesLine (c .code) (c .local) (c .x)) l10
+  -- 11: time quality, leap second code
+  pub l11 : List ℕ
+  pub quality : Line (QualityLine (c .quality) (c .leap)) l11
+  -- these and nothing else, each with CR LF, the last with it or not; at most 65,536 bytes
+  pub end : List ℕ
+  pub ends : (end ≡ []) ⊎ (end ≡ quoted "\r\n")
+  pub whole : s ≡ ended l1 ++ (ended l2 ++ (t3 ++ (t4 ++ (ended l5 ++ (ended l6 ++ (t6 ++ (ended l7 ++ (ended m7 ++ (ended l8 ++ (ended l9 ++ (ended l10 ++ (l11 ++ end))))))))))))
+  pub small : length s ≤ 65536

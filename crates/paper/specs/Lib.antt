@@ -1,0 +1,4 @@
+pub mod Configuration
+pub mod Data
+pub mod Lines
+pub mod Fields

@@ -69,11 +69,16 @@ pub record CountIn (most low high v : ℕ) (f : List ℕ) : Type 0 where
   pub least : low ≤ v
   pub greatest : v ≤ high
 
--- a count of at most 6 characters, 0 to high, and then a letter
-pub record Lettered (letter : String) (high v : ℕ) (f : List ℕ) : Type 0 where
+-- a count of at most 6 characters and then a letter
+pub record LetteredForm (letter : String) (v : ℕ) (f : List ℕ) : Type 0 where
   pub number : List ℕ
   pub text : f ≡ number ++ quoted letter
-  pub count : CountIn 6 0 high v number
+  pub count : CountField 6 v number
+
+-- such a count, 0 to high
+pub record Lettered (letter : String) (high v : ℕ) (f : List ℕ) : Type 0 where
+  pub form : LetteredForm letter v f
+  pub greatest : v ≤ high
 
 -- SIGNS AND WHOLE NUMBERS
 -- an optional sign

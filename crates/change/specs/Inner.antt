@@ -1,5 +1,5 @@
--- NOTHING TO BELIEVE HERE: what each private function of the code says. `decided` is what `needsBytes` says of a layout within the sizes; the laws `decided-walk`
--- (proofs/ChangeLaws.antt) and `decided-binary` (proofs/BinaryLaws.antt) say that a walk with its tally, and a check in the bytes of a binary kind, come to just that.
+-- NOTHING TO BELIEVE HERE: what each private function of the code says. `decided` is what `bytesNeeded` says of a layout within the sizes (law `needed-decided`, proofs/WriteLaws.antt);
+-- the laws `decided-walk` (proofs/ChangeLaws.antt) and `decided-binary` (proofs/BinaryLaws.antt) say that a walk with its tally, and a check in the bytes of a binary kind, come to just that.
 use mathlib.Core.Bool.{Bool, true, false, not}
 use mathlib.Core.List.{List}
 use Prim.Native.Nat.{ℕ, zero, suc, _+_, _*_, _≤_}
@@ -18,11 +18,21 @@ use Rattle.model.specs.Refusals.{refused}
 use Rattle.binary.specs.Rows.{rowSize}
 use Rattle.recode.specs.Inner.{fitFrom}
 use Rattle.plain.specs.Rows.{lengthBy}
-use Rattle.data.specs.Files.{byKind, fileFine, rowAt, bytesOf, lengthOf, misfitOf, endMark}
+use Rattle.data.specs.Files.{byKind, fileFine, rowAt, bytesOf, misfitOf, endMark}
+use Rattle.data.specs.Inner.{lengthOf}
 use Rattle.change.specs.declared.Tally.{Tally}
 use Rattle.change.specs.declared.Weighed.{Weighed}
 use Rattle.change.specs.declared.Weighed.the-variants as weighed
-use Rattle.change.specs.Change.{fitRows, fileLength}
+use Rattle.change.specs.Change.{fitRows}
+
+-- how many bytes the first m rows take
+unfoldable pub rowsLength : Layout → (ℕ → Row) → ℕ → ℕ
+rowsLength l r zero = 0
+rowsLength l r (suc m) = rowsLength l r m + lengthOf l (m + 1) (r m)
+
+-- how many bytes the file takes whose rows are r 0, r 1, .. , its end mark counted
+unfoldable pub fileLength : Layout → (ℕ → Row) → ℕ
+fileLength l r = rowsLength l r (l .rows) + length (endMark l)
 
 -- how many bytes row n takes with this timestamp and these samples
 unfoldable pub newLength : Layout → ℕ → ℕ → List ℤ → ℕ

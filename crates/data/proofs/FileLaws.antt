@@ -40,7 +40,8 @@ use Rattle.plain.proofs.LengthLaws.{length-text}
 use Rattle.texts.specs.Files.{checkText, textRow, mark, textFile, plainText}
 use Rattle.texts.proofs.RoundLaws.{Fits}
 use Rattle.texts.proofs.FileLaws as texts
-use Rattle.data.specs.Files.{fileFine, rowAt, bytesOf, lengthOf, hasRow, misfitOf, checkFile, rowAnswer, showRow, endMark, fileOf}
+use Rattle.data.specs.Files.{fileFine, rowAt, bytesOf, hasRow, misfitOf, checkFile, rowAnswer, showRow, endMark, fileOf}
+use Rattle.data.specs.Inner.{lengthOf}
 use Rattle.data.proofs.Laws.{text-kind, binary-kind}
 
 pub by-kind : {C : Type 0} (k : Kind) → (k ≡ Ascii → C) → ((k ≡ Ascii → ⊥) → C) → C

@@ -1,10 +1,9 @@
 -- Laws of the kinds, and of what an answer says of the rule that gave it.
 --     text-kind                   text
 --     binary-arm, not-text, binary-kind     the two binary kinds, by their places among the kinds, or as those that are not text
---     bytes-told                  the rule that an answer of so many bytes came from
 --     row-told                    a row that there is
 --     accepted-fine               a file that is accepted is of a sized layout, and fine
---     writable                    what an answer that a row is written says of the layout, the row and the room
+--     writable                    what is said where a row is written, and what that says of the layout, the row and the room
 -- Assumes nothing.
 use mathlib.Core.Path.{_≡_, refl}
 use mathlib.Core.Logic.{⊎-elim}
@@ -15,8 +14,9 @@ use native.Mathlib.Omega.{arith}
 use borrow.Author.Tests.{eqb-true, leb-true}
 use denote.Enum.Declared.{tagOf}
 use lib.Dec.{eqb, leb}
+use lib.ListN.{length}
 use types.Run.{OneOf}
-use Rattle.lists.specs.Said.{Said, says, refuses, _>>_, must}
+use Rattle.lists.specs.Said.{says, _>>_, must}
 use Rattle.lists.proofs.Every.{and-split}
 use Rattle.lists.proofs.SaidLaws.{must-told}
 use Rattle.model.proofs.Kind.{the-type}
@@ -24,18 +24,12 @@ use Rattle.model.specs.declared.Kind.{Kind}
 use Rattle.model.specs.declared.Kind.the-variants.{Ascii, Binary, Binary32}
 use Rattle.model.specs.declared.Layout.{Layout}
 use Rattle.model.specs.declared.Row.{Row}
-use Rattle.model.specs.declared.Refusal.{Refusal}
 use Rattle.model.specs.declared.Answer.the-variants.{Yes}
 use Rattle.model.specs.Layouts.{isSized, Sized}
 use Rattle.model.specs.Refusals.{refused}
 use Rattle.model.proofs.AnswerLaws.{yes-told}
 use Rattle.model.proofs.LayoutLaws.{sized}
-use Rattle.data.specs.declared.Written.the-variants.{Bytes}
-use Rattle.data.specs.Files.{byKind, fileFine, lengthOf, hasRow, misfitOf, checkFile, written, writeAnswer}
-
-pub bytes-told : (x : Said Refusal ℕ) (m : ℕ) → written x ≡ Bytes m → x ≡ says m
-bytes-told (says k) m e = cc
-bytes-told (refuses r) m e = cc
+use Rattle.data.specs.Files.{byKind, fileFine, bytesOf, hasRow, misfitOf, checkFile, writeSaid}
 
 pub binary-arm : {A : Type 0} (k : Kind) (text binary : A) → OneOf (1 ∷ (2 ∷ [])) (tagOf the-type k) → byKind k text binary ≡ binary
 binary-arm Ascii text binary h = ⊎-elim (λ e. absurd (omega arith)) (λ e. absurd (omega arith)) h
@@ -63,24 +57,24 @@ pub accepted-fine : (l : Layout) (s : List ℕ) → checkFile l s ≡ Yes → (i
 unfolding checkFile
 accepted-fine l s e = must-told (isSized l) (refused 10 0 0) (fileFine l s) tt (yes-told _ e)
 
--- row r, the n-th, may be written in m bytes, where there is room for so many
-pub record Writable (l : Layout) (n : ℕ) (r : Row) (room m : ℕ) : Type 0 where
+-- row r, the n-th, is written in these bytes, where there is room for so many
+pub record Writable (l : Layout) (n : ℕ) (r : Row) (room : ℕ) (new : List ℕ) : Type 0 where
   pub fit : Sized l
   pub all : misfitOf l r ≡ l .analogs
-  pub size : m ≡ lengthOf l n r
-  pub within : m ≤ room
+  pub bytes : new ≡ bytesOf l n r
+  pub within : length new ≤ room
 
-pub writable : (l : Layout) (n : ℕ) (r : Row) (room m : ℕ) → writeAnswer l n r room ≡ Bytes m → Writable l n r room m
-unfolding writeAnswer
-writable l n r room m e =
+pub writable : (l : Layout) (n : ℕ) (r : Row) (room : ℕ) (new : List ℕ) → writeSaid l n r room ≡ says new → Writable l n r room new
+unfolding writeSaid
+writable l n r room new e =
     let i = misfitOf l r in
-    let k = lengthOf l n r in
-    let roomy = must (leb k room) (refused 17 0 0) >> says k in
+    let k = bytesOf l n r in
+    let roomy = must (leb (length k) room) (refused 17 0 0) >> says k in
     let fitting = must (eqb i (l .analogs)) (refused 16 n (3 + i)) >> roomy in
     let there = must (hasRow l n) (refused 15 0 0) >> fitting in
-    let a = must-told (isSized l) (refused 10 0 0) there m (bytes-told (must (isSized l) (refused 10 0 0) >> there) m e) in
-    let b = must-told (hasRow l n) (refused 15 0 0) fitting m (a .1) in
-    let c = must-told (eqb i (l .analogs)) (refused 16 n (3 + i)) roomy m (b .1) in
-    let d = must-told (leb k room) (refused 17 0 0) (says k) m (c .1) in
-    let s : m ≡ k = cc (d .1) in
-    record { fit = sized l (a .0); all = eqb-true i (l .analogs) (c .0); size = s; within = omega (arith, leb-true k room (d .0)) }
+    let a = must-told (isSized l) (refused 10 0 0) there new e in
+    let b = must-told (hasRow l n) (refused 15 0 0) fitting new (a .1) in
+    let c = must-told (eqb i (l .analogs)) (refused 16 n (3 + i)) roomy new (b .1) in
+    let d = must-told (leb (length k) room) (refused 17 0 0) (says k) new (c .1) in
+    let s : new ≡ k = cc (d .1) in
+    record { fit = sized l (a .0); all = eqb-true i (l .analogs) (c .0); bytes = s; within = rw s (leb-true (length k) room (d .0)) }

@@ -1,10 +1,9 @@
 -- Places past A and D are not read when a row is written.
 --     unread-row     the bytes of a row are those of the row with these places zero
---     unread         and so are the answer, and what the buffer holds at the end
+--     unread         and so is what writing it says
 -- Assumes nothing.
-use mathlib.Core.Path.{_≡_, refl, sym, ap, _∙_}
+use mathlib.Core.Path.{_≡_, refl}
 use mathlib.Core.Bool.{false}
-use mathlib.Core.List.{List}
 use Prim.Native.Nat.{ℕ, _≤_}
 use lib.IntN.{pos}
 use lib.ListN.{length, getD}
@@ -15,8 +14,8 @@ use Rattle.model.specs.Rows.{trimmed}
 use Rattle.model.proofs.FitLaws.{unread-misfit}
 use Rattle.binary.proofs.RowLaws.{unread-bytes}
 use Rattle.plain.proofs.LineLaws.{unread-text}
-use Rattle.data.specs.Files.{bytesOf, lengthOf, misfitOf, writeAnswer, writtenTo}
-use Rattle.data.proofs.FileLaws.{by-kind, bytes-text, bytes-binary, length-bytes}
+use Rattle.data.specs.Files.{bytesOf, misfitOf, writeSaid}
+use Rattle.data.proofs.FileLaws.{by-kind, bytes-text, bytes-binary}
 
 module _ (l : Layout) (r : Row) (n : ℕ) (enough : l .statuses ≤ length (r .statuses)) where
   pub unread-row : bytesOf l n (trimmed l r) ≡ bytesOf l n r
@@ -30,15 +29,10 @@ module _ (l : Layout) (r : Row) (n : ℕ) (enough : l .statuses ≤ length (r .s
       (λ i h. getD-padded (λ j. getD (r .statuses) j false) (l .statuses) 256 i false false h)))
       (λ e. rw (bytes-binary l e n (trimmed l r), bytes-binary l e n r) (unread-bytes l r n enough))
 
-  unread-length : lengthOf l n (trimmed l r) ≡ lengthOf l n r
-  unread-length = length-bytes l n (trimmed l r) ∙ ap length unread-row ∙ sym (length-bytes l n r)
-
   unread-fit : misfitOf l (trimmed l r) ≡ misfitOf l r
   unfolding misfitOf
   unread-fit = unread-misfit l r
 
-  pub unread : (out : List ℕ)
-      → (writeAnswer l n (trimmed l r) (length out) ≡ writeAnswer l n r (length out))
-      × (writtenTo l n (trimmed l r) out ≡ writtenTo l n r out)
-  unfolding writeAnswer writtenTo
-  unread out = (rw (unread-length, unread-fit), rw (unread-length, unread-fit, unread-row))
+  pub unread : (room : ℕ) → writeSaid l n (trimmed l r) room ≡ writeSaid l n r room
+  unfolding writeSaid
+  unread room = rw (unread-fit, unread-row)

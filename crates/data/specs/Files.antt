@@ -1,9 +1,9 @@
 -- Data files of every kind: what each call answers, in the paper's order of refusals.
 use mathlib.Core.Bool.{Bool, _&&_}
-use mathlib.Core.List.{List, [], _∷_, _++_}
+use mathlib.Core.List.{List, [], _++_}
 use Prim.Native.Nat.{ℕ, _+_, _-_}
 use lib.Dec.{eqb, leb}
-use lib.ListN.{length, drop}
+use lib.ListN.{length}
 use Rattle.lists.specs.Said.{Said, says, refuses, _>>_, must}
 use Rattle.lists.specs.Tables.{cat}
 use Rattle.model.specs.declared.Kind.{Kind}
@@ -21,8 +21,6 @@ use Rattle.binaries.specs.Files as binaries
 use Rattle.plain.specs.Rows as plain
 use Rattle.texts.specs.Files as texts
 use Rattle.data.specs.declared.RowAnswer.{RowAnswer}
-use Rattle.data.specs.declared.Written.{Written}
-use Rattle.data.specs.declared.Written.the-variants.{Bytes, No}
 
 -- what is said by the kind; the two binary kinds differ by the layout alone
 abbrev pub byKind : {A : Type 0} → Kind → A → A → A
@@ -41,10 +39,6 @@ rowAt l s i = byKind (l .kind) (texts.textRow l i s) (binaries.binaryRow l i s)
 -- the bytes that row n is written in; its places past A and D are not read
 unfoldable pub bytesOf : Layout → ℕ → Row → List ℕ
 bytesOf l n r = byKind (l .kind) (plain.textOf l n r) (binary.bytesOf l n r)
-
--- how many they are
-unfoldable pub lengthOf : Layout → ℕ → Row → ℕ
-lengthOf l n r = byKind (l .kind) (plain.textLength l n r) (binary.rowSize l)
 
 -- there is a row n
 unfoldable pub hasRow : Layout → ℕ → Bool
@@ -79,28 +73,14 @@ showRow l s n = rowAnswer (do
   fileFine l s
   says (rowAt l s (n - 1)))
 
--- so many bytes, or the refusal
-abbrev pub written : Said Refusal ℕ → Written
-written (says m) = Bytes m
-written (refuses r) = No r
-
--- what writing row n answers, where there is room for so many bytes
-unfoldable pub writeAnswer : Layout → ℕ → Row → ℕ → Written
-writeAnswer l n r room = written (do
+-- writing row n: its bytes, where there is room for so many
+unfoldable pub writeSaid : Layout → ℕ → Row → ℕ → Said Refusal (List ℕ)
+writeSaid l n r room = do
   must (isSized l) (refused 10 0 0)
   must (hasRow l n) (refused 15 0 0)
   must (eqb (misfitOf l r) (l .analogs)) (refused 16 n (3 + misfitOf l r))
-  must (leb (lengthOf l n r) room) (refused 17 0 0)
-  says (lengthOf l n r))
-
--- the new bytes at the front of the old ones; a refusal leaves the old ones
-abbrev pub put : Written → List ℕ → List ℕ → List ℕ
-put (Bytes m) new old = new ++ drop m old
-put (No r) new old = old
-
--- what `out` holds when row n was written to it
-unfoldable pub writtenTo : Layout → ℕ → Row → List ℕ → List ℕ
-writtenTo l n r out = put (writeAnswer l n r (length out)) (bytesOf l n r) out
+  must (leb (length (bytesOf l n r)) room) (refused 17 0 0)
+  says (bytesOf l n r)
 
 -- what follows the last row of a file that is written: the end mark of a text
 unfoldable pub endMark : Layout → List ℕ

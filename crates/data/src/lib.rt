@@ -5,25 +5,22 @@ use model::Kind;
 use model::Layout;
 use model::Refusal;
 use model::Row;
+use model::Written;
 ghost use mathlib.Core.Path.{_≡_};
 ghost use Prim.Native.Nat.{_<_};
 ghost use lib.ListN.{length};
-ghost use Rattle.lists.specs.Said.{refuses};
+ghost use Rattle.lists.specs.Said.{refuses, over};
 ghost use Rattle.model.specs.Layouts.{Sized};
+ghost use Rattle.model.specs.Refusals.{writtenOf};
 ghost use Rattle.binaries.specs.Files.{checkBinary, binaryRow};
 ghost use Rattle.texts.specs.Files.{checkText, textRow};
-ghost use Rattle.data.specs.Files.{bytesOf, lengthOf, hasRow, misfitOf, checkFile, rowAnswer, shown, showRow, written, writeAnswer, writtenTo};
+ghost use Rattle.data.specs.Files.{bytesOf, hasRow, misfitOf, checkFile, rowAnswer, shown, showRow, writeSaid};
+ghost use Rattle.data.specs.Inner.{lengthOf};
 
 // A row, or a refusal and the row with every place zero.
 pub struct RowAnswer {
     pub answer: Answer,
     pub row: Row,
-}
-
-// How many bytes were written, or why none was.
-pub enum Written {
-    Bytes(usize),
-    No(Refusal),
 }
 
 // Whether there is a row n.
@@ -128,7 +125,7 @@ pub fn row_length(layout: Layout, n: u32, row: Row) -> usize
 
 // How many bytes row n takes, or why it is not written where there is room for so many.
 fn may_write(layout: Layout, n: u32, row: Row, room: usize) -> Written
-    ensures { λ r. ⌜ r ≡ writeAnswer layout n row room ⌝ }
+    ensures { λ r. ⌜ r ≡ writtenOf (writeSaid layout n row room) ⌝ }
 {
     if !layout.is_sized() {
         return Written::No(model::refused(10, 0, 0));
@@ -169,7 +166,8 @@ pub fn put_row(layout: Layout, n: u32, row: Row, d: &mut [u8])
 
 // Row n is written at the front of `out`, or nothing is.
 pub fn write_row(layout: Layout, n: u32, row: Row, out: &mut [u8]) -> Written
-    ensures { λ r. ⌜ (r ≡ writeAnswer layout n row (length (now (out .entry)))) × (now (out .exit) ≡ writtenTo layout n row (now (out .entry))) ⌝ }
+    ensures { λ r. ⌜ r ≡ writtenOf (writeSaid layout n row (length (now (out .entry)))) ⌝ }
+    ensures { λ _. ⌜ now (out .exit) ≡ over (writeSaid layout n row (length (now (out .entry)))) (now (out .entry)) ⌝ }
 {
     let room = out.len();
     let answer = may_write(layout, n, row, room);

@@ -1,7 +1,6 @@
 // Runs check, show_row and write_row on the cases of its standard input and prints what they answer: one line for each case.
 // A case is a number that names the rule, a layout (kind, A, D, rows), a row of it, and the file, with the escapes of the crate `cases`. After a bar stand the layout and
 // the room that the row is written with; with no bar it is written with the file's own layout, and room enough.
-use data::Written;
 use libc::STDIN_FILENO;
 use libc::STDOUT_FILENO;
 use model::AnalogNo;
@@ -12,6 +11,7 @@ use model::Row;
 use model::Sample;
 use model::Status;
 use model::StatusNo;
+use model::Written;
 ghost use mathlib.Core.Path.{_≡_};
 ghost use Prim.Native.Nat.{_≤_};
 ghost use lib.ListN.{length};

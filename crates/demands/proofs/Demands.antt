@@ -15,7 +15,7 @@ use native.Mathlib.Omega.{arith}
 use borrow.Author.Tests.{eq-eqb}
 use lib.Dec.{leb}
 use lib.ListN.{length}
-use Rattle.lists.specs.Said.{Said, says, refuses, _>>=_, _>>_, must}
+use Rattle.lists.specs.Said.{says, _>>_, must}
 use Rattle.lists.specs.Tables.{every}
 use Rattle.lists.proofs.Tables.{cat-ext}
 use Rattle.words.specs.Words.{isByte}
@@ -23,7 +23,6 @@ use Rattle.model.specs.declared.Kind.{Kind}
 use Rattle.model.specs.declared.Kind.the-variants.{Ascii}
 use Rattle.model.specs.declared.Layout.{Layout}
 use Rattle.model.specs.declared.Row.{Row}
-use Rattle.model.specs.declared.Refusal.{Refusal}
 use Rattle.model.specs.declared.Answer.the-variants.{Yes}
 use Rattle.model.specs.Layouts.{isSized, inKind}
 use Rattle.model.specs.Refusals.{refused}
@@ -33,10 +32,10 @@ use Rattle.binaries.specs.Files.{checkBinary}
 use Rattle.texts.specs.Files.{checkText, Plain, plainText}
 use Rattle.texts.proofs.PlainLaws.{exactly-plain}
 use Rattle.data.proofs.Laws.{text-kind, accepted-fine}
-use Rattle.data.specs.Files.{fileFine, rowAt, bytesOf, hasRow, misfitOf, checkFile, rowAnswer, showRow, written, fileOf, endMark}
+use Rattle.data.specs.Files.{fileFine, rowAt, bytesOf, hasRow, misfitOf, checkFile, rowAnswer, showRow, fileOf, endMark}
 use Rattle.data.proofs.FileLaws as files
-use Rattle.change.specs.Change.{fitRows, fileLength, needsBytes, changeAnswer, changed, AllFit}
-use Rattle.change.proofs.WriteLaws.{length-file, fit-all}
+use Rattle.change.specs.Change.{fitRows, changed, changeSaid, AllFit}
+use Rattle.change.proofs.WriteLaws.{fit-all}
 
 -- DEMAND 2. A written row, standing in an accepted file, reads back the same: its places past A and D zero
 pub reads-back : (l : Layout) → isSized l ≡ true → (r : ℕ → Row) → ((i : ℕ) → i < l .rows → files.Writes l (r i))
@@ -79,17 +78,10 @@ fits-exactly l r = (fit-all l r, λ h. all-fit l r 0 (l .rows) (λ j k. let q : 
 
 -- DEMAND 3, when a change is refused: 16 where a sample does not fit, or else 17 where the output is shorter than the new file
 pub decided-exactly : (l : Layout) (s : List ℕ) (k : Kind) (room : ℕ) → checkFile l s ≡ Yes
-    → changeAnswer l s k room
-    ≡ written (fitRows (inKind k l) (rowAt l s) 0 (l .rows) >> (must (leb (length (changed l s k)) room) (refused 17 0 0) >> says (length (changed l s k))))
-unfolding changeAnswer needsBytes changed
-decided-exactly l s k room e =
-    let a = accepted-fine l s e in
-    rw (a .0, a .1, ← length-file (inKind k l) (rowAt l s)) (ap written (go (fitRows (inKind k l) (rowAt l s) 0 (l .rows)) (fileLength (inKind k l) (rowAt l s))))
-  where
-    go : (x : Said Refusal (Unit {0})) (m : ℕ)
-        → ((x >> says m) >>= (λ j. must (leb j room) (refused 17 0 0) >> says j)) ≡ (x >> (must (leb m room) (refused 17 0 0) >> says m))
-    go (says u) m = refl
-    go (refuses r) m = refl
+    → changeSaid l s k room
+    ≡ (fitRows (inKind k l) (rowAt l s) 0 (l .rows) >> (must (leb (length (changed l s k)) room) (refused 17 0 0) >> says (changed l s k)))
+unfolding changeSaid
+decided-exactly l s k room e = let a = accepted-fine l s e in rw (a .0, a .1)
 
 -- a file that is accepted, and whose rows fit the new kind
 module _ (l : Layout) (s : List ℕ) (k : Kind) (e : checkFile l s ≡ Yes) (bytes : every isByte s ≡ true) (fit : AllFit (inKind k l) (rowAt l s)) where

@@ -6,20 +6,20 @@ use mathlib.Core.Path.{_≡_}
 use mathlib.Core.List.{List}
 use Prim.Native.Nat.{ℕ}
 use lib.ListN.{length}
-use Rattle.lists.specs.Said.{says, refuses}
-use Rattle.model.specs.Refusals.{refused}
-use Rattle.data.specs.declared.Written.{Written}
-use Rattle.data.specs.declared.Written.the-variants.{No}
-use Rattle.change.specs.Change.{FewWritten}
-use Rattle.reasons.specs.Reasons.{reasonOf, reasonAnswer, reasonTo, textAnswer, textTo}
+use Rattle.lists.specs.Said.{says, refuses, over}
+use Rattle.model.specs.declared.Written.{Written}
+use Rattle.model.specs.declared.Written.the-variants.{No}
+use Rattle.model.specs.Refusals.{refused, writtenOf, FewBytes}
+use Rattle.reasons.specs.Reasons.{reasonOf, textSaid, reasonSaid}
 
-pub told : (n : ℕ) (text old new : List ℕ) (w : Written) → (w ≡ textAnswer text (length old)) × (new ≡ textTo text old) × (FewWritten w)
+pub told : (n : ℕ) (text old new : List ℕ) (w : Written)
+    → ((w ≡ writtenOf (textSaid text (length old))) × (FewBytes w)) × (new ≡ over (textSaid text (length old)) old)
     → reasonOf n ≡ says text
-    → (w ≡ reasonAnswer n (length old)) × (new ≡ reasonTo n old) × (FewWritten w)
-unfolding reasonAnswer reasonTo textAnswer textTo
+    → ((w ≡ writtenOf (reasonSaid n (length old))) × (FewBytes w)) × (new ≡ over (reasonSaid n (length old)) old)
+unfolding reasonSaid
 told n text old new w h e = rw e h
 
 pub untold : (n : ℕ) (old : List ℕ) → reasonOf n ≡ refuses (refused 10 0 0)
-    → (No (refused 10 0 0) ≡ reasonAnswer n (length old)) × (old ≡ reasonTo n old)
-unfolding reasonAnswer reasonTo
+    → (No (refused 10 0 0) ≡ writtenOf (reasonSaid n (length old))) × (old ≡ over (reasonSaid n (length old)) old)
+unfolding reasonSaid
 untold n old e = (rw e, rw e)

@@ -1,5 +1,5 @@
 -- What each refusal's number means, as text that a panel can show.
-use mathlib.Core.List.{List, []}
+use mathlib.Core.List.{List}
 use Prim.Native.Nat.{ℕ}
 use lib.Dec.{eqb, leb}
 use lib.ListN.{length}
@@ -8,8 +8,6 @@ use Rattle.lists.specs.Quoted.{quoted}
 use Rattle.lists.specs.Said.{Said, says, refuses, _>>=_, _>>_, must}
 use Rattle.model.specs.declared.Refusal.{Refusal}
 use Rattle.model.specs.Refusals.{refused}
-use Rattle.data.specs.declared.Written.{Written}
-use Rattle.data.specs.Files.{written, put}
 
 -- the meaning of a number; 10 for a number that no refusal has
 unfoldable pub reasonOf : ℕ → Said Refusal (List ℕ)
@@ -33,28 +31,14 @@ reasonOf n =
     else if eqb n 17 then says (quoted "no room")
     else refuses (refused 10 0 0)
 
--- the answer: 10 for a number that no refusal has, then 17 where there is no room
-unfoldable pub reasonAnswer : ℕ → ℕ → Written
-reasonAnswer n room = written (do
+-- a text, where there is room for so many bytes
+unfoldable pub textSaid : List ℕ → ℕ → Said Refusal (List ℕ)
+textSaid text room = do
+  must (leb (length text) room) (refused 17 0 0)
+  says text
+
+-- the meaning of a number, where there is room for so many bytes: 10 for a number that no refusal has, then 17
+unfoldable pub reasonSaid : ℕ → ℕ → Said Refusal (List ℕ)
+reasonSaid n room = do
   text ← reasonOf n
-  must (leb (length text) room) (refused 17 0 0)
-  says (length text))
-
--- the text itself, none for a number that no refusal has
-abbrev pub textOf : Said Refusal (List ℕ) → List ℕ
-textOf (says text) = text
-textOf (refuses r) = []
-
--- what `out` holds when the meaning of a number was written to it
-unfoldable pub reasonTo : ℕ → List ℕ → List ℕ
-reasonTo n old = put (reasonAnswer n (length old)) (textOf (reasonOf n)) old
-
--- what writing a text answers, where there is room for so many bytes
-unfoldable pub textAnswer : List ℕ → ℕ → Written
-textAnswer text room = written (do
-  must (leb (length text) room) (refused 17 0 0)
-  says (length text))
-
--- what `out` holds when a text was written to it
-unfoldable pub textTo : List ℕ → List ℕ → List ℕ
-textTo text old = put (textAnswer text (length old)) text old
+  textSaid text room

@@ -1,11 +1,12 @@
 // What each refusal's number means, as text.
-// put_reason gives, for any number and any room, exactly the answer and the bytes that the definitions of specs/ say; a refusal changes no byte.
-use data::Written;
+// put_reason gives, for any number and any room, exactly what the definition of specs/ says; a refusal changes no byte.
+use model::Written;
 ghost use mathlib.Core.Path.{_≡_};
 ghost use Prim.Native.Nat.{_≤_};
 ghost use lib.ListN.{length};
-ghost use Rattle.change.specs.Change.{FewWritten};
-ghost use Rattle.reasons.specs.Reasons.{reasonAnswer, reasonTo, textAnswer, textTo};
+ghost use Rattle.lists.specs.Said.{over};
+ghost use Rattle.model.specs.Refusals.{writtenOf, FewBytes};
+ghost use Rattle.reasons.specs.Reasons.{textSaid, reasonSaid};
 
 // The bytes fill the slice.
 fn put_all(text: &[u8], d: &mut [u8])
@@ -22,7 +23,8 @@ fn put_all(text: &[u8], d: &mut [u8])
 // The text is written at the front of `out`, or nothing is.
 fn put_text(text: &[u8], out: &mut [u8]) -> Written
     requires { ⌜ length (now text) ≤ 80 ⌝ }
-    ensures { λ r. ⌜ (r ≡ textAnswer (now (text .entry)) (length (now (out .entry)))) × (now (out .exit) ≡ textTo (now (text .entry)) (now (out .entry))) × (FewWritten r) ⌝ }
+    ensures { λ r. ⌜ (r ≡ writtenOf (textSaid (now (text .entry)) (length (now (out .entry))))) × (FewBytes r) ⌝ }
+    ensures { λ _. ⌜ now (out .exit) ≡ over (textSaid (now (text .entry)) (length (now (out .entry)))) (now (out .entry)) ⌝ }
 {
     let size = text.len();
     if out.len() < size {
@@ -34,7 +36,8 @@ fn put_text(text: &[u8], out: &mut [u8]) -> Written
 
 // The meaning of a refusal's number is written at the front of `out`, or nothing is.
 pub fn put_reason(number: u32, out: &mut [u8]) -> Written
-    ensures { λ r. ⌜ (r ≡ reasonAnswer number (length (now (out .entry)))) × (now (out .exit) ≡ reasonTo number (now (out .entry))) × (FewWritten r) ⌝ }
+    ensures { λ r. ⌜ (r ≡ writtenOf (reasonSaid number (length (now (out .entry))))) × (FewBytes r) ⌝ }
+    ensures { λ _. ⌜ now (out .exit) ≡ over (reasonSaid number (length (now (out .entry)))) (now (out .entry)) ⌝ }
 {
     match number {
         1 => put_text(b"the configuration has more than 65,536 bytes", out),

@@ -1,15 +1,17 @@
 -- Laws of what the exported calls show and write.
+--     counted-written, counted-needed     the exported answer of so many bytes is that of what was said
 --     config-places, row-places     how many places a configuration, and a row, has
 --     shown-sized                   a row is shown of a layout within the sizes alone
 --     written-few                   a row that is written is short
 -- Assumes nothing.
-use mathlib.Core.Path.{_≡_, refl, sym, _∙_}
+use mathlib.Core.Path.{_≡_, refl, sym, ap, _∙_}
 use mathlib.Core.Bool.{true, false}
 use mathlib.Core.List.{List}
 use Prim.Native.Nat.{ℕ, _<_, _≤_, _^_}
 use native.Mathlib.Omega.{arith}
 use lib.IntN.{ℤ, pos}
 use lib.ListN.{length, getD, length-append}
+use Rattle.lists.specs.Said.{Said, says, refuses}
 use Rattle.lists.specs.Tables.{tab}
 use Rattle.lists.proofs.Tables.{length-tab}
 use Rattle.lists.proofs.Cases.{on-test}
@@ -17,8 +19,13 @@ use Rattle.model.specs.declared.Answer.the-variants as answer
 use Rattle.model.specs.declared.Kind.the-variants.{Ascii}
 use Rattle.model.specs.declared.Layout.{Layout}
 use Rattle.model.specs.declared.Row.{Row}
+use Rattle.model.specs.declared.Refusal.{Refusal}
+use Rattle.model.specs.declared.Written.{Written}
+use Rattle.model.specs.declared.Written.the-variants as written
+use Rattle.model.specs.Refusals.{writtenOf, neededOf, FewBytes}
 use Rattle.model.specs.Kinds.{fitsKind}
 use Rattle.model.specs.Layouts.{isSized, Sized}
+use Rattle.model.proofs.AnswerLaws.{written-told}
 use Rattle.model.proofs.LayoutLaws.{sized}
 use Rattle.model.proofs.FitLaws.{misfit-all}
 use Rattle.rules.specs.declared.Config.{Config}
@@ -26,14 +33,22 @@ use Rattle.binary.specs.Rows.{rowSize}
 use Rattle.binary.proofs.SizeLaws.{size-le}
 use Rattle.plain.specs.Rows.{textLength}
 use Rattle.plain.proofs.LengthLaws.{text-line, line-most}
-use Rattle.data.specs.declared.Written.{Written}
-use Rattle.data.specs.declared.Written.the-variants as written
-use Rattle.data.specs.Files.{showRow, lengthOf, misfitOf, writeAnswer}
+use Rattle.data.specs.Files.{showRow, misfitOf, writeSaid}
+use Rattle.data.specs.Inner.{lengthOf}
 use Rattle.data.proofs.Laws.{text-kind, binary-kind, writable}
-use Rattle.data.proofs.FileLaws.{by-kind}
-use Rattle.change.specs.Change.{FewWritten}
+use Rattle.data.proofs.FileLaws.{by-kind, length-bytes}
 use Rattle.places.specs.Rows.{placesOf, statusPlace, rowPlaces}
 use Rattle.places.specs.Configs.{configPlaces}
+use Rattle.zagalume.specs.Calls.{told, toldWritten}
+use Rattle.zagalume.specs.Inner.{counted}
+
+pub counted-written : (x : Said Refusal (List ℕ)) → counted (writtenOf x) ≡ toldWritten x
+counted-written (says new) = refl
+counted-written (refuses r) = refl
+
+pub counted-needed : (x : Said Refusal ℕ) → counted (neededOf x) ≡ told x
+counted-needed (says m) = refl
+counted-needed (refuses r) = refl
 
 pub config-places : (c : Config) → length (configPlaces c) ≡ 34
 unfolding configPlaces
@@ -58,11 +73,13 @@ text-short l n r fit k all hn ht =
     let each : (i : ℕ) → i < l .analogs → fitsKind Ascii (getD (r .samples) i (pos 0)) ≡ true = λ i h. rw k at (misfit-all (l .kind) (r .samples) (l .analogs) all i h) in
     omega (arith, text-line l n r, line-most l n r fit hn ht each)
 
-pub written-few : (l : Layout) (n : ℕ) (r : Row) (room : ℕ) (w : Written) → n < 2 ^ 32 → r .time < 2 ^ 32 → w ≡ writeAnswer l n r room → FewWritten w
+pub written-few : (l : Layout) (n : ℕ) (r : Row) (room : ℕ) (w : Written) → n < 2 ^ 32 → r .time < 2 ^ 32 → w ≡ writtenOf (writeSaid l n r room) → FewBytes w
 unfolding lengthOf
 written-few l n r room (written.No q) hn ht e = tt
 written-few l n r room (written.Bytes m) hn ht e =
-    let y = writable l n r room m (sym e) in
+    let t = written-told (writeSaid l n r room) m (sym e) in
+    let y = writable l n r room (t .0) (t .1) in
+    let s : m ≡ lengthOf l n r = t .2 ∙ ap length (y .bytes) ∙ sym (length-bytes l n r) in
     by-kind (l .kind)
-    (λ k. let q : m ≡ textLength l n r = y .size ∙ text-kind (l .kind) (textLength l n r) (rowSize l) k in omega (arith, text-short l n r (y .fit) k (y .all) hn ht))
-    (λ k. let q : m ≡ rowSize l = y .size ∙ binary-kind (l .kind) (textLength l n r) (rowSize l) k in omega (arith, size-le l (y .fit)))
+    (λ k. let q : m ≡ textLength l n r = s ∙ text-kind (l .kind) (textLength l n r) (rowSize l) k in omega (arith, text-short l n r (y .fit) k (y .all) hn ht))
+    (λ k. let q : m ≡ rowSize l = s ∙ binary-kind (l .kind) (textLength l n r) (rowSize l) k in omega (arith, size-le l (y .fit)))

@@ -1,9 +1,9 @@
--- The exported calls: numbers and lent buffers in; one answer, and what the buffers then hold.
-use mathlib.Core.List.{List, _++_}
+-- The exported calls: numbers and lent buffers in. What a call that writes says is its answer (`toldShown`, `toldWritten`), and what the lent buffer then holds (`over`).
+use mathlib.Core.List.{List}
 use Prim.Native.Nat.{ℕ, _+_}
 use lib.Dec.{eqb, leb}
 use lib.IntN.{ℤ}
-use lib.ListN.{length, drop}
+use lib.ListN.{length}
 use Rattle.lists.specs.Said.{Said, says, refuses, _>>=_, _>>_, must}
 use Rattle.model.specs.declared.Kind.{Kind}
 use Rattle.model.specs.declared.KindNo.{KindNo}
@@ -20,12 +20,8 @@ use Rattle.rules.specs.declared.Config.{Config}
 use Rattle.config.specs.declared.ConfigAnswer.{ConfigAnswer}
 use Rattle.config.specs.Config.{readConfig}
 use Rattle.data.specs.declared.RowAnswer.{RowAnswer}
-use Rattle.data.specs.declared.Written.{Written}
-use Rattle.data.specs.declared.Written.the-variants as written
-use Rattle.data.specs.Files.{checkFile, showRow, hasRow, writeAnswer, writtenTo}
-use Rattle.change.specs.declared.Needed.{Needed}
-use Rattle.change.specs.declared.Needed.the-variants as needed
-use Rattle.change.specs.Change.{bytesNeeded, changeAnswer, changedTo}
+use Rattle.data.specs.Files.{checkFile, showRow, hasRow, writeSaid}
+use Rattle.change.specs.Change.{bytesNeeded, changeSaid}
 use Rattle.places.specs.Rows.{placesOf, rowPlaces, unfit, rowOf}
 use Rattle.places.specs.Configs.{configPlaces}
 use Rattle.zagalume.specs.declared.zl_answer.{«zl_answer»}
@@ -43,20 +39,15 @@ abbrev pub told : Said Refusal ℕ → «zl_answer»
 told (says m) = yes m
 told (refuses r) = no r
 
+-- the answer of a call that writes bytes: their length
+abbrev pub toldWritten : Said Refusal (List ℕ) → «zl_answer»
+toldWritten (says new) = yes (length new)
+toldWritten (refuses r) = no r
+
 -- the answer of a call that shows places: it has no length
 abbrev pub toldShown : {A : Type 0} → Said Refusal (List A) → «zl_answer»
 toldShown (says zs) = yes 0
 toldShown (refuses r) = no r
-
--- the new places or bytes at the front of the old ones; a refusal leaves the old ones
-abbrev pub over : {A : Type 0} → Said Refusal (List A) → List A → List A
-over (says new) old = new ++ drop (length new) old
-over (refuses r) old = old
-
--- what is left of a buffer: what follows from what was said; a refusal leaves the old bytes
-abbrev pub leaving : {A B : Type 0} → Said Refusal A → (A → List B) → List B → List B
-leaving (says a) new old = new a
-leaving (refuses r) new old = old
 
 -- a kind by its number; 10 for a number that no kind has
 abbrev pub kindSaid : KindNo → Said Refusal Kind
@@ -72,12 +63,6 @@ abbrev pub accepted : Answer → Said Refusal (Unit {0})
 accepted answer.Yes = says tt
 accepted (answer.No r) = refuses r
 
--- the answer of a check: it has no length
-abbrev pub plainSaid : Answer → «zl_answer»
-plainSaid a = told (do
-  accepted a
-  says 0)
-
 -- what the reading of a configuration says
 abbrev pub configSaid : ConfigAnswer → Said Refusal Config
 configSaid c = do
@@ -89,16 +74,6 @@ abbrev pub rowSaid : RowAnswer → Said Refusal Row
 rowSaid r = do
   accepted (r .answer)
   says (r .row)
-
--- how many bytes were written
-abbrev pub writtenSaid : Written → Said Refusal ℕ
-writtenSaid (written.Bytes m) = says m
-writtenSaid (written.No r) = refuses r
-
--- how many bytes are needed
-abbrev pub neededSaid : Needed → Said Refusal ℕ
-neededSaid (needed.Bytes m) = says m
-neededSaid (needed.No r) = refuses r
 
 -- places that fit the room: 17 where they do not
 abbrev pub placed : {A : Type 0} → ℕ → List A → ℕ → Said Refusal (List A)
@@ -140,56 +115,38 @@ rowAsked l n zs = do
   must (eqb (unfit l zs) (placesOf l)) (refused 16 n (2 + unfit l zs))
   says (rowOf l zs)
 
--- how many bytes row n is written in
-unfoldable pub writeIn : Layout → ℕ → List ℤ → ℕ → Said Refusal ℕ
+-- the bytes that row n is written in, or the refusal; no room last of all
+unfoldable pub writeIn : Layout → ℕ → List ℤ → ℕ → Said Refusal (List ℕ)
 writeIn l n zs room = do
   r ← rowAsked l n zs
-  writtenSaid (writeAnswer l n r room)
+  writeSaid l n r room
 
--- what the output then holds
-unfoldable pub writeInTo : Layout → ℕ → List ℤ → List ℕ → List ℕ
-writeInTo l n zs old = leaving (rowAsked l n zs) (λ r. writtenTo l n r old) old
-
--- zl_write_row: how many bytes row n is written in
-unfoldable pub writeCall : ℕ → ℕ → ℕ → ℕ → ℕ → List ℤ → ℕ → Said Refusal ℕ
+-- zl_write_row: the bytes that row n is written in
+unfoldable pub writeCall : ℕ → ℕ → ℕ → ℕ → ℕ → List ℤ → ℕ → Said Refusal (List ℕ)
 writeCall a d rows kind n zs room = do
   k ← kindSaid (kindOf kind)
   writeIn (layoutBy a d rows k) n zs room
 
--- what the output then holds
-unfoldable pub writeCallTo : ℕ → ℕ → ℕ → ℕ → ℕ → List ℤ → List ℕ → List ℕ
-writeCallTo a d rows kind n zs old =
-    leaving (kindSaid (kindOf kind)) (λ k. writeInTo (layoutBy a d rows k) n zs old) old
-
--- the bytes that a change to a kind needs, by the kind's number
+-- how many bytes a change to a kind needs, by the kind's number
 unfoldable pub lengthIn : Layout → List ℕ → ℕ → Said Refusal ℕ
 lengthIn l s new = do
   k ← kindSaid (kindOf new)
-  neededSaid (bytesNeeded l s k)
+  bytesNeeded l s k
 
--- zl_length: the bytes that a change of kind needs
+-- zl_length: how many bytes a change of kind needs
 unfoldable pub lengthCall : ℕ → ℕ → ℕ → ℕ → List ℕ → ℕ → Said Refusal ℕ
 lengthCall a d rows kind s new = do
   k ← kindSaid (kindOf kind)
   lengthIn (layoutBy a d rows k) s new
 
--- the change to a kind, by the kind's number: how many bytes are written
-unfoldable pub changeIn : Layout → List ℕ → ℕ → ℕ → Said Refusal ℕ
+-- the file in a kind, by the kind's number
+unfoldable pub changeIn : Layout → List ℕ → ℕ → ℕ → Said Refusal (List ℕ)
 changeIn l s new room = do
   k ← kindSaid (kindOf new)
-  writtenSaid (changeAnswer l s k room)
+  changeSaid l s k room
 
--- what the output then holds
-unfoldable pub changeInTo : Layout → List ℕ → ℕ → List ℕ → List ℕ
-changeInTo l s new old = leaving (kindSaid (kindOf new)) (λ k. changedTo l s k old) old
-
--- zl_change: how many bytes are written
-unfoldable pub changeCall : ℕ → ℕ → ℕ → ℕ → List ℕ → ℕ → ℕ → Said Refusal ℕ
+-- zl_change: the file in another kind
+unfoldable pub changeCall : ℕ → ℕ → ℕ → ℕ → List ℕ → ℕ → ℕ → Said Refusal (List ℕ)
 changeCall a d rows kind s new room = do
   k ← kindSaid (kindOf kind)
   changeIn (layoutBy a d rows k) s new room
-
--- what the output then holds
-unfoldable pub changeCallTo : ℕ → ℕ → ℕ → ℕ → List ℕ → ℕ → List ℕ → List ℕ
-changeCallTo a d rows kind s new old =
-    leaving (kindSaid (kindOf kind)) (λ k. changeInTo (layoutBy a d rows k) s new old) old

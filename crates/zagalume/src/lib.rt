@@ -1,22 +1,23 @@
 // The exported calls, on plain numbers and lent slices: what C and Rust link.
 // Each answers every combination of its arguments, and gives exactly what the definition of its name says; a refusal changes no lent place or byte.
-use change::Needed;
-use data::Written;
 use model::Answer;
 use model::Kind;
 use model::KindNo;
 use model::Layout;
 use model::Refusal;
 use model::Row;
+use model::Written;
 use rules::Config;
 ghost use mathlib.Core.Path.{_≡_};
 ghost use lib.ListN.{length};
+ghost use Rattle.lists.specs.Said.{over};
 ghost use Rattle.model.specs.Layouts.{Sized};
-ghost use Rattle.change.specs.Change.{FewNeeded, FewWritten};
+ghost use Rattle.model.specs.Refusals.{FewBytes};
 ghost use Rattle.places.specs.Rows.{placesOf, rowPlaces};
 ghost use Rattle.places.specs.Configs.{configPlaces};
-ghost use Rattle.reasons.specs.Reasons.{reasonAnswer, reasonTo};
-ghost use Rattle.zagalume.specs.Calls.{yes, no, told, toldShown, over, layoutBy, plainSaid, writtenSaid, neededSaid, placed, configCall, checkCall, rowIn, rowCall, writeIn, writeInTo, writeCall, writeCallTo, lengthIn, lengthCall, changeIn, changeInTo, changeCall, changeCallTo};
+ghost use Rattle.reasons.specs.Reasons.{reasonSaid};
+ghost use Rattle.zagalume.specs.Calls.{yes, no, told, toldWritten, toldShown, layoutBy, placed, configCall, checkCall, rowIn, rowCall, writeIn, writeCall, lengthIn, lengthCall, changeIn, changeCall};
+ghost use Rattle.zagalume.specs.Inner.{plainSaid, counted};
 
 // The refusal's number and place, zeros for yes; the length in bytes where the call has one, 0 elsewhere.
 #[repr(C)]
@@ -158,10 +159,10 @@ pub extern "C" fn zl_row(
     }
 }
 
-// How many bytes were written.
-fn written(answer: Written) -> zl_answer
-    requires { ⌜ FewWritten answer ⌝ }
-    ensures { λ r. ⌜ r ≡ told (writtenSaid answer) ⌝ }
+// How many bytes are written or needed.
+fn counted(answer: Written) -> zl_answer
+    requires { ⌜ FewBytes answer ⌝ }
+    ensures { λ r. ⌜ r ≡ counted answer ⌝ }
 {
     match answer {
         Written::Bytes(size) => yes(size as u32),
@@ -171,8 +172,8 @@ fn written(answer: Written) -> zl_answer
 
 // Row n of the places, written at the front of `out`, or nothing is.
 fn write_row(layout: Layout, n: u32, zs: &[i64], out: &mut [u8]) -> zl_answer
-    ensures { λ r. ⌜ r ≡ told (writeIn layout n (now (zs .entry)) (length (now (out .entry)))) ⌝ }
-    ensures { λ _. ⌜ now (out .exit) ≡ writeInTo layout n (now (zs .entry)) (now (out .entry)) ⌝ }
+    ensures { λ r. ⌜ r ≡ toldWritten (writeIn layout n (now (zs .entry)) (length (now (out .entry)))) ⌝ }
+    ensures { λ _. ⌜ now (out .exit) ≡ over (writeIn layout n (now (zs .entry)) (length (now (out .entry)))) (now (out .entry)) ⌝ }
 {
     if !layout.is_sized() {
         return no(model::refused(10, 0, 0));
@@ -188,7 +189,7 @@ fn write_row(layout: Layout, n: u32, zs: &[i64], out: &mut [u8]) -> zl_answer
     if bad != count {
         return no(model::refused(16, n, 2 + bad as u32));
     }
-    written(data::write_row(layout, n, places::row_of(layout, zs), out))
+    counted(data::write_row(layout, n, places::row_of(layout, zs), out))
 }
 
 // The places of row n, written at the front of `out` as bytes of the kind, or nothing is.
@@ -202,23 +203,12 @@ pub extern "C" fn zl_write_row(
     row: &[i64],
     out: &mut [u8],
 ) -> zl_answer
-    ensures { λ r. ⌜ r ≡ told (writeCall a d rows kind n (now (row .entry)) (length (now (out .entry)))) ⌝ }
-    ensures { λ _. ⌜ now (out .exit) ≡ writeCallTo a d rows kind n (now (row .entry)) (now (out .entry)) ⌝ }
+    ensures { λ r. ⌜ r ≡ toldWritten (writeCall a d rows kind n (now (row .entry)) (length (now (out .entry)))) ⌝ }
+    ensures { λ _. ⌜ now (out .exit) ≡ over (writeCall a d rows kind n (now (row .entry)) (length (now (out .entry)))) (now (out .entry)) ⌝ }
 {
     match Kind::of(kind) {
         KindNo::Is(k) => write_row(layout_of(a, d, rows, k), n, row, out),
         KindNo::None => no(model::refused(10, 0, 0)),
-    }
-}
-
-// How many bytes are needed.
-fn needed(answer: Needed) -> zl_answer
-    requires { ⌜ FewNeeded answer ⌝ }
-    ensures { λ r. ⌜ r ≡ told (neededSaid answer) ⌝ }
-{
-    match answer {
-        Needed::Bytes(size) => yes(size as u32),
-        Needed::No(refusal) => no(refusal),
     }
 }
 
@@ -227,7 +217,7 @@ fn length_in(layout: Layout, data: &[u8], new_kind: u32) -> zl_answer
     ensures { λ r. ⌜ r ≡ told (lengthIn layout (now («data» .entry)) «new_kind») ⌝ }
 {
     match Kind::of(new_kind) {
-        KindNo::Is(k) => needed(change::bytes_needed(layout, data, k)),
+        KindNo::Is(k) => counted(change::bytes_needed(layout, data, k)),
         KindNo::None => no(model::refused(10, 0, 0)),
     }
 }
@@ -252,11 +242,11 @@ pub extern "C" fn zl_length(
 
 // The file in the kind of a number, written at the front of `out`, or nothing is.
 fn change_in(layout: Layout, data: &[u8], new_kind: u32, out: &mut [u8]) -> zl_answer
-    ensures { λ r. ⌜ r ≡ told (changeIn layout (now («data» .entry)) «new_kind» (length (now (out .entry)))) ⌝ }
-    ensures { λ _. ⌜ now (out .exit) ≡ changeInTo layout (now («data» .entry)) «new_kind» (now (out .entry)) ⌝ }
+    ensures { λ r. ⌜ r ≡ toldWritten (changeIn layout (now («data» .entry)) «new_kind» (length (now (out .entry)))) ⌝ }
+    ensures { λ _. ⌜ now (out .exit) ≡ over (changeIn layout (now («data» .entry)) «new_kind» (length (now (out .entry)))) (now (out .entry)) ⌝ }
 {
     match Kind::of(new_kind) {
-        KindNo::Is(k) => written(change::change(layout, data, k, out)),
+        KindNo::Is(k) => counted(change::change(layout, data, k, out)),
         KindNo::None => no(model::refused(10, 0, 0)),
     }
 }
@@ -272,8 +262,8 @@ pub extern "C" fn zl_change(
     new_kind: u32,
     out: &mut [u8],
 ) -> zl_answer
-    ensures { λ r. ⌜ r ≡ told (changeCall a d rows kind (now («data» .entry)) «new_kind» (length (now (out .entry)))) ⌝ }
-    ensures { λ _. ⌜ now (out .exit) ≡ changeCallTo a d rows kind (now («data» .entry)) «new_kind» (now (out .entry)) ⌝ }
+    ensures { λ r. ⌜ r ≡ toldWritten (changeCall a d rows kind (now («data» .entry)) «new_kind» (length (now (out .entry)))) ⌝ }
+    ensures { λ _. ⌜ now (out .exit) ≡ over (changeCall a d rows kind (now («data» .entry)) «new_kind» (length (now (out .entry)))) (now (out .entry)) ⌝ }
 {
     match Kind::of(kind) {
         KindNo::Is(k) => change_in(layout_of(a, d, rows, k), data, new_kind, out),
@@ -284,8 +274,8 @@ pub extern "C" fn zl_change(
 // The meaning of a refusal's number, written at the front of `out` as text, or nothing is.
 #[no_mangle]
 pub extern "C" fn zl_reason(number: u32, out: &mut [u8]) -> zl_answer
-    ensures { λ r. ⌜ r ≡ told (writtenSaid (reasonAnswer number (length (now (out .entry))))) ⌝ }
-    ensures { λ _. ⌜ now (out .exit) ≡ reasonTo number (now (out .entry)) ⌝ }
+    ensures { λ r. ⌜ r ≡ toldWritten (reasonSaid number (length (now (out .entry)))) ⌝ }
+    ensures { λ _. ⌜ now (out .exit) ≡ over (reasonSaid number (length (now (out .entry)))) (now (out .entry)) ⌝ }
 {
-    written(reasons::put_reason(number, out))
+    counted(reasons::put_reason(number, out))
 }

@@ -1,10 +1,12 @@
 -- `may_write` meets its contract: each return is the test that led to it.
-use Rattle.data.specs.Files.{hasRow, misfitOf, writeAnswer}
+use Rattle.data.specs.Files.{bytesOf, hasRow, misfitOf, writeSaid}
+use Rattle.data.proofs.FileLaws.{length-bytes}
 use Rattle.model.proofs.FitLaws.{misfit-le}
 use Rattle.model.proofs.LayoutLaws.{sized}
 use Rattle.model.specs.Layouts.{isSized, Sized}
 use borrow.Author.Tests.{eq-eqb, ne-eqb, le-leb, lt-leb, not-true, not-false}
 use native.Mathlib.Omega.{arith}
+use lib.ListN.{length}
 use Prim.Native.Nat.{_≤_}
 use mathlib.Core.Bool.{true}
 use mathlib.Core.Path.{_≡_, sym, _∙_}
@@ -26,7 +28,7 @@ fit : (c : tie.Else1) → Sized (c .before .before .args .layout)
 fit c = sized (c .before .before .args .layout) (ok c)
 
 returns : tie.Need-returns
-unfolding writeAnswer
+unfolding writeSaid
 returns c = rw (c .refused .ensures, ← c .before .before .is-sized .ensures, not-true (c .before .before .is-sized .result) (c .before .if1 .taken))
 
 has-row-requires : tie.Need-has-row-requires
@@ -36,7 +38,7 @@ refused-requires-2 : tie.Need-refused-requires-2
 refused-requires-2 c κs = search needs
 
 returns-2 : tie.Need-returns-2
-unfolding writeAnswer
+unfolding writeSaid
 returns-2 c = rw (c .refused2 .ensures, ok (c .before .before .before), ← c .before .before .has-row .ensures, not-true (c .before .before .has-row .result) (c .before .if2 .taken))
 
 cast-a : tie.Need-cast-a
@@ -69,11 +71,15 @@ add-field c = omega (arith, small c)
 row-length-requires : tie.Need-row-length-requires
 row-length-requires c κs = fit (c .before .before .before .before .before)
 
+-- as many bytes as the row takes
+size : (c : tie.After-row-length) → c .row-length .result ≡ length (bytesOf (c .before .before .before .before .before .before .before .before .args .layout) (c .before .before .before .before .before .before .before .before .args .n) (c .before .before .before .before .before .before .before .before .args .row))
+size c = c .row-length .ensures ∙ length-bytes (c .before .before .before .before .before .before .before .before .args .layout) (c .before .before .before .before .before .before .before .before .args .n) (c .before .before .before .before .before .before .before .before .args .row)
+
 refused-requires-3 : tie.Need-refused-requires-3
 refused-requires-3 c κs = search needs
 
 returns-3 : tie.Need-returns-3
-unfolding writeAnswer
+unfolding writeSaid
 returns-3 c =
     let m = c .before .before .before in
     rw (c .refused3 .ensures, ok (m .before .before .before .before .before), there (m .before .before .before), found m, ne-eqb _ _ (c .before .if3 .taken))
@@ -82,16 +88,16 @@ refused-requires-4 : tie.Need-refused-requires-4
 refused-requires-4 c κs = search needs
 
 returns-4 : tie.Need-returns-4
-unfolding writeAnswer
+unfolding writeSaid
 returns-4 c =
     let m = c .before .before .before .before in
-    rw (c .refused4 .ensures, ok (m .before .before .before .before .before), there (m .before .before .before), found m, eq-eqb _ _ (c .before .before .if3 .left), ← c .before .before .before .row-length .ensures, lt-leb _ _ (c .before .if4 .taken))
+    rw (c .refused4 .ensures, ok (m .before .before .before .before .before), there (m .before .before .before), found m, eq-eqb _ _ (c .before .before .if3 .left), ← size (c .before .before .before), lt-leb _ _ (c .before .if4 .taken))
 
 returns-5 : tie.Need-returns-5
-unfolding writeAnswer
+unfolding writeSaid
 returns-5 c =
     let m = c .before .before .before in
-    rw (ok (m .before .before .before .before .before), there (m .before .before .before), found m, eq-eqb _ _ (c .before .if3 .left), ← c .before .before .row-length .ensures, le-leb _ _ (c .if4 .left))
+    rw (ok (m .before .before .before .before .before), there (m .before .before .before), found m, eq-eqb _ _ (c .before .if3 .left), ← size (c .before .before), le-leb _ _ (c .if4 .left), ← size (c .before .before))
 
 pub may-write-spec : {M : Type 1} → statement M
 may-write-spec =

@@ -1,6 +1,7 @@
 -- `put_row` meets its contract: the kind's writer fills the slice.
 use Rattle.data.proofs.Laws.{binary-arm}
-use Rattle.data.specs.Files.{bytesOf, lengthOf, misfitOf}
+use Rattle.data.specs.Files.{bytesOf, misfitOf}
+use Rattle.data.specs.Inner.{lengthOf}
 use Rattle.plain.specs.Rows as plain
 use Rattle.binary.specs.Rows as binary
 use mathlib.Core.Path.{sym, _∙_}

@@ -1,6 +1,6 @@
 -- `row_length` meets its contract: the length is the kind's.
 use Rattle.data.proofs.Laws.{binary-arm}
-use Rattle.data.specs.Files.{lengthOf}
+use Rattle.data.specs.Inner.{lengthOf}
 use Rattle.plain.specs.Rows.{textLength}
 use Rattle.binary.specs.Rows.{rowSize}
 use borrow.Author.Needs.{needs}

@@ -119,119 +119,119 @@ same-length c = search needs
 
 returns : tie.Need-returns
 unfolding reasonOf
-returns c = told _ _ _ _ _ (c .before .before .put-text .ensures) (rw (c .before .before .before .before .before .match .keys1))
+returns c = told _ _ (c .before .before .before .before .before .before .before .args .out .now) _ _ (c .before .before .put-text .ensures) (rw (c .before .before .before .before .before .match .keys1))
 
 same-length-2 : tie.Need-same-length-2
 same-length-2 c = search needs
 
 returns-2 : tie.Need-returns-2
 unfolding reasonOf
-returns-2 c = told _ _ _ _ _ (c .before .before .put-text2 .ensures) (rw (c .before .before .before .before .before .match .keys2))
+returns-2 c = told _ _ (c .before .before .before .before .before .before .before .args .out .now) _ _ (c .before .before .put-text2 .ensures) (rw (c .before .before .before .before .before .match .keys2))
 
 same-length-3 : tie.Need-same-length-3
 same-length-3 c = search needs
 
 returns-3 : tie.Need-returns-3
 unfolding reasonOf
-returns-3 c = told _ _ _ _ _ (c .before .before .put-text3 .ensures) (rw (c .before .before .before .before .before .match .keys3))
+returns-3 c = told _ _ (c .before .before .before .before .before .before .before .args .out .now) _ _ (c .before .before .put-text3 .ensures) (rw (c .before .before .before .before .before .match .keys3))
 
 same-length-4 : tie.Need-same-length-4
 same-length-4 c = search needs
 
 returns-4 : tie.Need-returns-4
 unfolding reasonOf
-returns-4 c = told _ _ _ _ _ (c .before .before .put-text4 .ensures) (rw (c .before .before .before .before .before .match .keys4))
+returns-4 c = told _ _ (c .before .before .before .before .before .before .before .args .out .now) _ _ (c .before .before .put-text4 .ensures) (rw (c .before .before .before .before .before .match .keys4))
 
 same-length-5 : tie.Need-same-length-5
 same-length-5 c = search needs
 
 returns-5 : tie.Need-returns-5
 unfolding reasonOf
-returns-5 c = told _ _ _ _ _ (c .before .before .put-text5 .ensures) (rw (c .before .before .before .before .before .match .keys5))
+returns-5 c = told _ _ (c .before .before .before .before .before .before .before .args .out .now) _ _ (c .before .before .put-text5 .ensures) (rw (c .before .before .before .before .before .match .keys5))
 
 same-length-6 : tie.Need-same-length-6
 same-length-6 c = search needs
 
 returns-6 : tie.Need-returns-6
 unfolding reasonOf
-returns-6 c = told _ _ _ _ _ (c .before .before .put-text6 .ensures) (rw (c .before .before .before .before .before .match .keys6))
+returns-6 c = told _ _ (c .before .before .before .before .before .before .before .args .out .now) _ _ (c .before .before .put-text6 .ensures) (rw (c .before .before .before .before .before .match .keys6))
 
 same-length-7 : tie.Need-same-length-7
 same-length-7 c = search needs
 
 returns-7 : tie.Need-returns-7
 unfolding reasonOf
-returns-7 c = told _ _ _ _ _ (c .before .before .put-text7 .ensures) (rw (c .before .before .before .before .before .match .keys7))
+returns-7 c = told _ _ (c .before .before .before .before .before .before .before .args .out .now) _ _ (c .before .before .put-text7 .ensures) (rw (c .before .before .before .before .before .match .keys7))
 
 same-length-8 : tie.Need-same-length-8
 same-length-8 c = search needs
 
 returns-8 : tie.Need-returns-8
 unfolding reasonOf
-returns-8 c = told _ _ _ _ _ (c .before .before .put-text8 .ensures) (rw (c .before .before .before .before .before .match .keys8))
+returns-8 c = told _ _ (c .before .before .before .before .before .before .before .args .out .now) _ _ (c .before .before .put-text8 .ensures) (rw (c .before .before .before .before .before .match .keys8))
 
 same-length-9 : tie.Need-same-length-9
 same-length-9 c = search needs
 
 returns-9 : tie.Need-returns-9
 unfolding reasonOf
-returns-9 c = told _ _ _ _ _ (c .before .before .put-text9 .ensures) (rw (c .before .before .before .before .before .match .keys9))
+returns-9 c = told _ _ (c .before .before .before .before .before .before .before .args .out .now) _ _ (c .before .before .put-text9 .ensures) (rw (c .before .before .before .before .before .match .keys9))
 
 same-length-10 : tie.Need-same-length-10
 same-length-10 c = search needs
 
 returns-10 : tie.Need-returns-10
 unfolding reasonOf
-returns-10 c = told _ _ _ _ _ (c .before .before .put-text10 .ensures) (rw (c .before .before .before .before .before .match .keys10))
+returns-10 c = told _ _ (c .before .before .before .before .before .before .before .args .out .now) _ _ (c .before .before .put-text10 .ensures) (rw (c .before .before .before .before .before .match .keys10))
 
 same-length-11 : tie.Need-same-length-11
 same-length-11 c = search needs
 
 returns-11 : tie.Need-returns-11
 unfolding reasonOf
-returns-11 c = told _ _ _ _ _ (c .before .before .put-text11 .ensures) (rw (c .before .before .before .before .before .match .keys11))
+returns-11 c = told _ _ (c .before .before .before .before .before .before .before .args .out .now) _ _ (c .before .before .put-text11 .ensures) (rw (c .before .before .before .before .before .match .keys11))
 
 same-length-12 : tie.Need-same-length-12
 same-length-12 c = search needs
 
 returns-12 : tie.Need-returns-12
 unfolding reasonOf
-returns-12 c = told _ _ _ _ _ (c .before .before .put-text12 .ensures) (rw (c .before .before .before .before .before .match .keys12))
+returns-12 c = told _ _ (c .before .before .before .before .before .before .before .args .out .now) _ _ (c .before .before .put-text12 .ensures) (rw (c .before .before .before .before .before .match .keys12))
 
 same-length-13 : tie.Need-same-length-13
 same-length-13 c = search needs
 
 returns-13 : tie.Need-returns-13
 unfolding reasonOf
-returns-13 c = told _ _ _ _ _ (c .before .before .put-text13 .ensures) (rw (c .before .before .before .before .before .match .keys13))
+returns-13 c = told _ _ (c .before .before .before .before .before .before .before .args .out .now) _ _ (c .before .before .put-text13 .ensures) (rw (c .before .before .before .before .before .match .keys13))
 
 same-length-14 : tie.Need-same-length-14
 same-length-14 c = search needs
 
 returns-14 : tie.Need-returns-14
 unfolding reasonOf
-returns-14 c = told _ _ _ _ _ (c .before .before .put-text14 .ensures) (rw (c .before .before .before .before .before .match .keys14))
+returns-14 c = told _ _ (c .before .before .before .before .before .before .before .args .out .now) _ _ (c .before .before .put-text14 .ensures) (rw (c .before .before .before .before .before .match .keys14))
 
 same-length-15 : tie.Need-same-length-15
 same-length-15 c = search needs
 
 returns-15 : tie.Need-returns-15
 unfolding reasonOf
-returns-15 c = told _ _ _ _ _ (c .before .before .put-text15 .ensures) (rw (c .before .before .before .before .before .match .keys15))
+returns-15 c = told _ _ (c .before .before .before .before .before .before .before .args .out .now) _ _ (c .before .before .put-text15 .ensures) (rw (c .before .before .before .before .before .match .keys15))
 
 same-length-16 : tie.Need-same-length-16
 same-length-16 c = search needs
 
 returns-16 : tie.Need-returns-16
 unfolding reasonOf
-returns-16 c = told _ _ _ _ _ (c .before .before .put-text16 .ensures) (rw (c .before .before .before .before .before .match .keys16))
+returns-16 c = told _ _ (c .before .before .before .before .before .before .before .args .out .now) _ _ (c .before .before .put-text16 .ensures) (rw (c .before .before .before .before .before .match .keys16))
 
 same-length-17 : tie.Need-same-length-17
 same-length-17 c = search needs
 
 returns-17 : tie.Need-returns-17
 unfolding reasonOf
-returns-17 c = told _ _ _ _ _ (c .before .before .put-text17 .ensures) (rw (c .before .before .before .before .before .match .keys17))
+returns-17 c = told _ _ (c .before .before .before .before .before .before .before .args .out .now) _ _ (c .before .before .put-text17 .ensures) (rw (c .before .before .before .before .before .match .keys17))
 
 returns-18 : tie.Need-returns-18
 unfolding reasonOf
@@ -260,7 +260,7 @@ returns-18 c =
       ne-eqb n 17 (no .1),
     ) in
     let u = untold n (c .before .before .before .args .out .now) e in
-    (rw (c .refused .ensures) (u .0), u .1, tt)
+    ((rw (c .refused .ensures) (u .0), tt), u .1)
 
 pub put-reason-spec : {M : Type 1} → statement M
 put-reason-spec =

@@ -4,7 +4,7 @@ use native.Mathlib.Omega.{arith}
 use borrow.Author.Needs.{needs}
 use borrow.Author.Tests.{le-leb, lt-leb}
 use lib.Seq.{length-take-le}
-use Rattle.reasons.specs.Reasons.{textAnswer, textTo}
+use Rattle.reasons.specs.Reasons.{textSaid}
 use Rattle.reasons.proofs.put_text.Statement.{statement}
 use Rattle.reasons.proofs.put_text.Tie as tie
 
@@ -12,10 +12,10 @@ refused-requires : tie.Need-refused-requires
 refused-requires c κs = search needs
 
 returns : tie.Need-returns
-unfolding textAnswer textTo
+unfolding textSaid
 returns c =
     let short = lt-leb _ _ (c .before .if1 .taken) in
-    (rw (c .refused .ensures, short), rw short, tt)
+    ((rw (c .refused .ensures, short), tt), rw short)
 
 slice-relend-prefix-put-all : tie.Need-slice-relend-prefix-put-all
 slice-relend-prefix-put-all c = search needs
@@ -30,10 +30,10 @@ same-length : tie.Need-same-length
 same-length c = search needs
 
 returns-2 : tie.Need-returns-2
-unfolding textAnswer textTo
+unfolding textSaid
 returns-2 c =
     let roomy = le-leb _ _ (c .before .before .before .before .if1 .left) in
-    (rw roomy, rw (roomy, c .before .before .put-all .ensures), omega arith)
+    ((rw roomy, omega arith), rw (roomy, c .before .before .put-all .ensures))
 
 pub put-text-spec : {M : Type 1} → statement M
 put-text-spec =

@@ -1,5 +1,6 @@
 -- `zagalume::change_in` meets its contract: the kind of the number, and then the call below.
-use Rattle.zagalume.specs.Calls.{changeIn, changeInTo}
+use Rattle.zagalume.specs.Calls.{changeIn}
+use Rattle.zagalume.proofs.CallLaws.{counted-written}
 use mathlib.Core.Path.{sym, _∙_}
 use borrow.Author.Needs.{needs}
 use Rattle.zagalume.proofs.change_in.Statement.{statement}
@@ -14,8 +15,8 @@ enum-known-k c = search needs
 change-requires : tie.Need-change-requires
 change-requires c κs = search needs
 
-written-requires : tie.Need-written-requires
-written-requires c κs = search needs
+counted-requires : tie.Need-counted-requires
+counted-requires c κs = search needs
 
 enum-told : tie.Need-enum-told
 enum-told c = search needs
@@ -30,11 +31,11 @@ same-length : tie.Need-same-length
 same-length c = search needs
 
 returns : tie.Need-returns
-unfolding changeIn changeInTo
-returns c = (rw (c .written .ensures, c .before .before .before .change .ensures .0, sym (c .before .before .before .before .before .before .before .before .of .ensures) ∙ c .before .before .before .before .before .before .k .given .1), rw (sym (c .before .before .before .before .before .before .before .before .of .ensures) ∙ c .before .before .before .before .before .before .k .given .1) (c .before .before .before .change .ensures .1))
+unfolding changeIn
+returns c = (rw (c .counted .ensures, c .before .before .before .change .ensures .0 .0, counted-written, sym (c .before .before .before .before .before .before .before .before .of .ensures) ∙ c .before .before .before .before .before .before .k .given .1), rw (sym (c .before .before .before .before .before .before .before .before .of .ensures) ∙ c .before .before .before .before .before .before .k .given .1) (c .before .before .before .change .ensures .1))
 
 returns-2 : tie.Need-returns-2
-unfolding changeIn changeInTo
+unfolding changeIn
 returns-2 c = (rw (c .no .ensures, c .before .refused .ensures, sym (c .before .before .before .before .of .ensures) ∙ c .before .before .enum-told .given .1), rw (sym (c .before .before .before .before .of .ensures) ∙ c .before .before .enum-told .given .1))
 
 pub change-in-spec : {M : Type 1} → statement M
@@ -44,7 +45,7 @@ change-in-spec =
     of-requires
     enum-known-k
     change-requires
-    written-requires
+    counted-requires
     enum-told
     refused-requires
     no-requires

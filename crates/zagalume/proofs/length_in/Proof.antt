@@ -1,5 +1,6 @@
 -- `zagalume::length_in` meets its contract: the kind of the number, and then the call below.
 use Rattle.zagalume.specs.Calls.{lengthIn}
+use Rattle.zagalume.proofs.CallLaws.{counted-needed}
 use mathlib.Core.Path.{sym, _∙_}
 use borrow.Author.Needs.{needs}
 use Rattle.zagalume.proofs.length_in.Statement.{statement}
@@ -14,8 +15,8 @@ enum-known-k c = search needs
 bytes-needed-requires : tie.Need-bytes-needed-requires
 bytes-needed-requires c κs = search needs
 
-needed-requires : tie.Need-needed-requires
-needed-requires c κs = search needs
+counted-requires : tie.Need-counted-requires
+counted-requires c κs = search needs
 
 enum-told : tie.Need-enum-told
 enum-told c = search needs
@@ -28,7 +29,7 @@ no-requires c κs = search needs
 
 returns : tie.Need-returns
 unfolding lengthIn
-returns c = rw (c .needed .ensures, c .before .bytes-needed .ensures .0, sym (c .before .before .before .before .before .of .ensures) ∙ c .before .before .before .k .given .1)
+returns c = rw (c .counted .ensures, c .before .bytes-needed .ensures .0, counted-needed, sym (c .before .before .before .before .before .of .ensures) ∙ c .before .before .before .k .given .1)
 
 returns-2 : tie.Need-returns-2
 unfolding lengthIn
@@ -41,7 +42,7 @@ length-in-spec =
     of-requires
     enum-known-k
     bytes-needed-requires
-    needed-requires
+    counted-requires
     enum-told
     refused-requires
     no-requires

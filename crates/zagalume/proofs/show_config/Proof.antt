@@ -1,5 +1,6 @@
 -- `zagalume::show_config` meets its contract: 34 places are filled where there is room for them.
 use Rattle.zagalume.proofs.CallLaws.{config-places}
+use native.Mathlib.Omega.{arith}
 use borrow.Author.Tests.{le-leb, lt-leb}
 use lib.ListN.{length}
 use lib.Seq.{length-take-le}
@@ -21,7 +22,7 @@ slice-relend-prefix-put-config : tie.Need-slice-relend-prefix-put-config
 slice-relend-prefix-put-config c = search needs
 
 slice-aggregate-put-config : tie.Need-slice-aggregate-put-config
-slice-aggregate-put-config c = sym (length-take-le 34 (c .before .before .args .shown .now) (c .before .if1 .left))
+slice-aggregate-put-config c = sym (length-take-le _ (c .before .before .args .shown .now) (omega (arith, c .before .if1 .left)))
 
 put-config-requires : tie.Need-put-config-requires
 put-config-requires c κs = length-take-le 34 (c .before .before .args .shown .now) (c .before .if1 .left)

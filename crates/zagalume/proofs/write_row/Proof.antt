@@ -1,6 +1,6 @@
 -- `zagalume::write_row` meets its contract: each return is the test that led to it, and a row whose places fit is written by the call below.
-use Rattle.zagalume.specs.Calls.{rowAsked, writeIn, writeInTo}
-use Rattle.zagalume.proofs.CallLaws.{written-few}
+use Rattle.zagalume.specs.Calls.{rowAsked, writeIn}
+use Rattle.zagalume.proofs.CallLaws.{counted-written, written-few}
 use Rattle.places.specs.Rows.{placesOf, unfit, rowOf}
 use Rattle.places.proofs.UnfitLaws.{unfit-le, time-small}
 use Rattle.data.specs.Files.{hasRow}
@@ -61,7 +61,7 @@ right : (c : tie.Else4) → eqb (unfit (c .before .before .before .before .befor
 right c = eq-eqb (unfit (c .before .before .before .before .before .before .before .before .before .args .layout) (c .before .before .before .before .before .before .before .before .before .args .zs .now)) (placesOf (c .before .before .before .before .before .before .before .before .before .args .layout)) (all c)
 
 returns : tie.Need-returns
-unfolding rowAsked writeIn writeInTo
+unfolding rowAsked writeIn
 returns c = (rw (c .no .ensures, c .before .refused .ensures, ← c .before .before .before .is-sized .ensures, not-true (c .before .before .before .is-sized .result) (c .before .before .if1 .taken)), rw (← c .before .before .before .is-sized .ensures, not-true (c .before .before .before .is-sized .result) (c .before .before .if1 .taken)))
 
 places-of-requires : tie.Need-places-of-requires
@@ -74,7 +74,7 @@ no-requires-2 : tie.Need-no-requires-2
 no-requires-2 c κs = search needs
 
 returns-2 : tie.Need-returns-2
-unfolding rowAsked writeIn writeInTo
+unfolding rowAsked writeIn
 returns-2 c = (rw (c .no2 .ensures, c .before .refused2 .ensures, ok (c .before .before .before .before), lt-leb (placesOf (c .before .before .before .before .before .before .before .args .layout)) (length (c .before .before .before .before .before .before .before .args .zs .now)) (rw (c .before .before .before .places-of .ensures) at (c .before .before .if2 .taken))), rw (ok (c .before .before .before .before), lt-leb (placesOf (c .before .before .before .before .before .before .before .args .layout)) (length (c .before .before .before .before .before .before .before .args .zs .now)) (rw (c .before .before .before .places-of .ensures) at (c .before .before .if2 .taken))))
 
 has-row-requires : tie.Need-has-row-requires
@@ -87,7 +87,7 @@ no-requires-3 : tie.Need-no-requires-3
 no-requires-3 c κs = search needs
 
 returns-3 : tie.Need-returns-3
-unfolding rowAsked writeIn writeInTo
+unfolding rowAsked writeIn
 returns-3 c = (rw (c .no3 .ensures, c .before .refused3 .ensures, ok (c .before .before .before .before .before .before), enough (c .before .before .before .before), ← c .before .before .before .has-row .ensures, not-true (c .before .before .before .has-row .result) (c .before .before .if3 .taken)), rw (ok (c .before .before .before .before .before .before), enough (c .before .before .before .before), ← c .before .before .before .has-row .ensures, not-true (c .before .before .before .has-row .result) (c .before .before .if3 .taken)))
 
 first-unfit-requires : tie.Need-first-unfit-requires
@@ -106,7 +106,7 @@ no-requires-4 : tie.Need-no-requires-4
 no-requires-4 c κs = search needs
 
 returns-4 : tie.Need-returns-4
-unfolding rowAsked writeIn writeInTo
+unfolding rowAsked writeIn
 returns-4 c = (rw (c .no4 .ensures, c .before .refused4 .ensures, ok (c .before .before .before .before .before .before .before .before), enough (c .before .before .before .before .before .before), there (c .before .before .before .before), wrong (c .before .before), c .before .before .before .first-unfit .ensures), rw (ok (c .before .before .before .before .before .before .before .before), enough (c .before .before .before .before .before .before), there (c .before .before .before .before), wrong (c .before .before)))
 
 row-of-requires : tie.Need-row-of-requires
@@ -115,16 +115,16 @@ row-of-requires c κs = (fit (c .before .before .before .before .before .before)
 write-row-requires : tie.Need-write-row-requires
 write-row-requires c κs = search needs
 
-written-requires : tie.Need-written-requires
+counted-requires : tie.Need-counted-requires
 unfolding rowOf
-written-requires c κs = let t : c .before .before .before .before .row-of .result .time < 2 ^ 32 = rw (c .before .before .before .before .row-of .ensures) (time-small (c .before .before .before .before .before .before .before .before .before .before .before .before .before .before .args .layout) (c .before .before .before .before .before .before .before .before .before .before .before .before .before .before .args .zs .now) (all (c .before .before .before .before .before))) in written-few (c .before .before .before .before .before .before .before .before .before .before .before .before .before .before .args .layout) (c .before .before .before .before .before .before .before .before .before .before .before .before .before .before .args .n) (c .before .before .before .before .row-of .result) (length (c .before .before .before .before .before .before .before .before .before .before .before .before .before .before .args .out .now)) (c .before .before .write-row .result) (omega arith) t (c .before .before .write-row .ensures .0)
+counted-requires c κs = let t : c .before .before .before .before .row-of .result .time < 2 ^ 32 = rw (c .before .before .before .before .row-of .ensures) (time-small (c .before .before .before .before .before .before .before .before .before .before .before .before .before .before .args .layout) (c .before .before .before .before .before .before .before .before .before .before .before .before .before .before .args .zs .now) (all (c .before .before .before .before .before))) in written-few (c .before .before .before .before .before .before .before .before .before .before .before .before .before .before .args .layout) (c .before .before .before .before .before .before .before .before .before .before .before .before .before .before .args .n) (c .before .before .before .before .row-of .result) (length (c .before .before .before .before .before .before .before .before .before .before .before .before .before .before .args .out .now)) (c .before .before .write-row .result) (omega arith) t (c .before .before .write-row .ensures .0)
 
 same-length : tie.Need-same-length
 same-length c = search needs
 
 returns-5 : tie.Need-returns-5
-unfolding rowAsked writeIn writeInTo
-returns-5 c = (rw (c .written .ensures, c .before .before .before .write-row .ensures .0, c .before .before .before .before .before .row-of .ensures, ok (c .before .before .before .before .before .before .before .before .before .before .before .before), enough (c .before .before .before .before .before .before .before .before .before .before), there (c .before .before .before .before .before .before .before .before), right (c .before .before .before .before .before .before)), rw (ok (c .before .before .before .before .before .before .before .before .before .before .before .before), enough (c .before .before .before .before .before .before .before .before .before .before), there (c .before .before .before .before .before .before .before .before), right (c .before .before .before .before .before .before)) (rw (c .before .before .before .before .before .row-of .ensures) at (c .before .before .before .write-row .ensures .1)))
+unfolding rowAsked writeIn
+returns-5 c = (rw (c .counted .ensures, c .before .before .before .write-row .ensures .0, counted-written, c .before .before .before .before .before .row-of .ensures, ok (c .before .before .before .before .before .before .before .before .before .before .before .before), enough (c .before .before .before .before .before .before .before .before .before .before), there (c .before .before .before .before .before .before .before .before), right (c .before .before .before .before .before .before)), rw (ok (c .before .before .before .before .before .before .before .before .before .before .before .before), enough (c .before .before .before .before .before .before .before .before .before .before), there (c .before .before .before .before .before .before .before .before), right (c .before .before .before .before .before .before)) (rw (c .before .before .before .before .before .row-of .ensures) at (c .before .before .before .write-row .ensures .1)))
 
 pub write-row-spec : {M : Type 1} → statement M
 write-row-spec =
@@ -150,6 +150,6 @@ write-row-spec =
     returns-4
     row-of-requires
     write-row-requires
-    written-requires
+    counted-requires
     same-length
     returns-5)

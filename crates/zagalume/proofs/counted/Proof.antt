@@ -1,17 +1,17 @@
--- `zagalume::written` meets its contract: each return is the answer that led to it, and its bytes are counted in 32 bits.
-use Rattle.change.specs.Change.{FewWritten}
+-- `zagalume::counted` meets its contract: each return is the answer that led to it, and its bytes are counted in 32 bits.
+use Rattle.model.specs.Refusals.{FewBytes}
 use Prim.Native.Nat.{_<_, _^_}
 use native.Mathlib.Omega.{arith}
 use mathlib.Core.Path.{subst}
 use borrow.Author.Needs.{needs}
-use Rattle.zagalume.proofs.written.Statement.{statement}
-use Rattle.zagalume.proofs.written.Tie as tie
+use Rattle.zagalume.proofs.counted.Statement.{statement}
+use Rattle.zagalume.proofs.counted.Tie as tie
 
 enum-known-answer : tie.Need-enum-known-answer
 enum-known-answer c = search needs
 
 cast-yes : tie.Need-cast-yes
-cast-yes c = let f : c .before .answer .given .0 .0 < 2 ^ 32 = subst FewWritten (c .before .answer .given .1) (c .before .before .before .pre) in omega arith
+cast-yes c = let f : c .before .answer .given .0 .0 < 2 ^ 32 = subst FewBytes (c .before .answer .given .1) (c .before .before .before .pre) in omega arith
 
 yes-requires : tie.Need-yes-requires
 yes-requires c κs = search needs
@@ -28,8 +28,8 @@ returns c = rw (c .yes .ensures, c .before .before .answer .given .1)
 returns-2 : tie.Need-returns-2
 returns-2 c = rw (c .no .ensures, c .before .before .answer2 .given .1)
 
-pub written-spec : {M : Type 1} → statement M
-written-spec =
+pub counted-spec : {M : Type 1} → statement M
+counted-spec =
     tie.close
     (tie.spec
     enum-known-answer

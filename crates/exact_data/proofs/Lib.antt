@@ -1,2 +1,5 @@
 pub mod NumberLaws
 pub mod BinaryLaws
+pub mod FieldLaws
+pub mod TextLaws
+pub mod FileLaws

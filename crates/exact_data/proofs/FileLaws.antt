@@ -1,0 +1,190 @@
+-- Data files of every kind, exactly, on the calls.
+--     sized-is                   a layout within the sizes passes the test
+--     as-text, as-binary         a data file, by the kind
+--     fine-exactly               a file is fine, and its rows are r 0, r 1, .., exactly when it is the data file of these rows
+--     one-file                   a file is the data file of one row of rows alone
+--     data-exactly               a file is accepted, and these rows are shown, exactly when the layout is sized and it is the data file of these rows
+--     data-refused               a file is refused exactly when it is the data file of no rows
+--     row-refused                a row is refused, with zeros beside it, exactly when the file is, or when there is no such row
+-- Assumes nothing.
+use mathlib.Core.Path.{_≡_, refl, sym, ap, _∙_}
+use mathlib.Core.Logic.{_↔_, _⊎_, inl, inr, ⊎-elim}
+use mathlib.Core.Bool.{true}
+use mathlib.Core.List.{List}
+use Prim.Native.Nat.{ℕ, _+_, _-_, _<_, _≤_}
+use native.Mathlib.Omega.{arith}
+use borrow.Author.Tests.{le-leb}
+use Rattle.lists.specs.Said.{Said, says, refuses, _>>_, must}
+use Rattle.lists.specs.Tables.{every}
+use Rattle.lists.proofs.Cases.{lt-or-ge, clash}
+use Rattle.lists.proofs.SaidLaws.{must-told, then-told}
+use Rattle.words.specs.Words.{isByte}
+use Rattle.model.specs.declared.Kind.{Kind}
+use Rattle.model.specs.declared.Kind.the-variants.{Ascii, Binary, Binary32}
+use Rattle.model.specs.declared.Layout.{Layout}
+use Rattle.model.specs.declared.Row.{Row}
+use Rattle.model.specs.declared.Refusal.{Refusal}
+use Rattle.model.specs.declared.Answer.{Answer}
+use Rattle.model.specs.declared.Answer.the-variants.{Yes, No}
+use Rattle.model.specs.Layouts.{isSized, Sized}
+use Rattle.model.specs.Refusals.{refused}
+use Rattle.model.specs.Rows.{zeroRow}
+use Rattle.model.proofs.LayoutLaws.{sized}
+use Rattle.binaries.specs.Files.{checkBinary, binaryRow}
+use Rattle.texts.specs.Files.{checkText, textRow}
+use Rattle.data.specs.declared.RowAnswer.{RowAnswer}
+use Rattle.data.specs.Files.{fileFine, rowAt, hasRow, checkFile, rowAnswer, showRow}
+use Rattle.data.proofs.Laws.{text-kind, binary-kind, row-told, accepted-fine}
+use Rattle.data.proofs.FileLaws.{by-kind}
+use Rattle.paper.specs.Data.{TextFile, BinaryFile, FileOf, DataFile}
+use Rattle.exact_data.proofs.BinaryLaws.{binary-exactly}
+use Rattle.exact_data.proofs.TextLaws.{text-exactly}
+
+pub sized-is : (l : Layout) → Sized l → isSized l ≡ true
+unfolding isSized
+sized-is l s =
+    rw (
+      le-leb (l .analogs) 96 (s .analogs),
+      le-leb (l .statuses) 256 (s .statuses),
+      le-leb 1 (l .analogs + l .statuses) (s .channels),
+      le-leb 1 (l .rows) (s .some-rows),
+      le-leb (l .rows) 1000000 (s .rows),
+    )
+
+-- a data file of a kind
+module _ (l : Layout) (r : ℕ → Row) (s : List ℕ) where
+  pub as-text : (k : Kind) → k ≡ Ascii → FileOf k l r s ↔ TextFile l r s
+  as-text k e = rw e (λ t. t, λ t. t)
+
+  pub as-binary : (k : Kind) → (k ≡ Ascii → ⊥) → FileOf k l r s ↔ BinaryFile l r s
+  as-binary Ascii e = absurd (e refl)
+  as-binary Binary e = (λ t. t, λ t. t)
+  as-binary Binary32 e = (λ t. t, λ t. t)
+
+-- the rows of s are r 0, r 1, ..
+abbrev pub RowsAre : Layout → (ℕ → Row) → List ℕ → Type 0
+RowsAre l r s = (i : ℕ) → i < l .rows → rowAt l s i ≡ r i
+
+-- a file of a sized layout
+module _ (l : Layout) (s : List ℕ) (size : Sized l) (bytes : every isByte s ≡ true) where
+  fine-text : (r : ℕ → Row) → l .kind ≡ Ascii → ((fileFine l s ≡ says tt) × RowsAre l r s) ↔ DataFile l r s
+  unfolding fileFine rowAt
+  fine-text r e =
+      let a = text-exactly l r s in
+      let f = text-kind (l .kind) (checkText l s) (checkBinary l s) e in
+      let g : (i : ℕ) → rowAt l s i ≡ textRow l i s = λ i. text-kind (l .kind) (textRow l i s) (binaryRow l i s) e in
+      let d = as-text l r s (l .kind) e in
+      (λ x. d .1 (a .0 (sym f ∙ x .0, λ i h. sym (g i) ∙ x .1 i h)), λ t. let x = a .1 (d .0 t) in (f ∙ x .0, λ i h. g i ∙ x .1 i h))
+
+  fine-binary : (r : ℕ → Row) → (l .kind ≡ Ascii → ⊥) → ((fileFine l s ≡ says tt) × RowsAre l r s) ↔ DataFile l r s
+  unfolding fileFine rowAt
+  fine-binary r e =
+      let a = binary-exactly l r s size bytes in
+      let f = binary-kind (l .kind) (checkText l s) (checkBinary l s) e in
+      let g : (i : ℕ) → rowAt l s i ≡ binaryRow l i s = λ i. binary-kind (l .kind) (textRow l i s) (binaryRow l i s) e in
+      let d = as-binary l r s (l .kind) e in
+      (λ x. d .1 (a .0 (sym f ∙ x .0, λ i h. sym (g i) ∙ x .1 i h)), λ t. let x = a .1 (d .0 t) in (f ∙ x .0, λ i h. g i ∙ x .1 i h))
+
+  pub fine-exactly : (r : ℕ → Row) → ((fileFine l s ≡ says tt) × RowsAre l r s) ↔ DataFile l r s
+  fine-exactly r = by-kind (l .kind) (fine-text r) (fine-binary r)
+
+  pub one-file : (r q : ℕ → Row) → DataFile l r s → DataFile l q s → (i : ℕ) → i < l .rows → r i ≡ q i
+  one-file r q t u i h = sym (fine-exactly r .1 t .1 i h) ∙ fine-exactly q .1 u .1 i h
+
+-- row n of a file that is fine
+shows : (l : Layout) (s : List ℕ) (n : ℕ) → isSized l ≡ true → fileFine l s ≡ says tt → hasRow l n ≡ true → showRow l s n ≡ rowAnswer (says (rowAt l s (n - 1)))
+unfolding showRow
+shows l s n a f h = rw (a, h, f)
+
+has : (l : Layout) (n : ℕ) → 1 ≤ n → n ≤ l .rows → hasRow l n ≡ true
+unfolding hasRow
+has l n h k = rw (le-leb 1 n h, le-leb n (l .rows) k)
+
+module _ (l : Layout) (s : List ℕ) (bytes : every isByte s ≡ true) where
+  -- row i, counted from 0
+  shows-next : (i : ℕ) → isSized l ≡ true → fileFine l s ≡ says tt → i < l .rows → showRow l s (i + 1) ≡ rowAnswer (says (rowAt l s i))
+  shows-next i a f h =
+      let e : i + 1 - 1 ≡ i = omega arith in
+      rw e at (shows l s (i + 1) a f (has l (i + 1) (omega arith) (omega arith)))
+
+  data-to : (r : ℕ → Row) → checkFile l s ≡ Yes → ((i : ℕ) → i < l .rows → showRow l s (i + 1) ≡ rowAnswer (says (r i))) → Sized l × DataFile l r s
+  data-to r e rows =
+      let a = accepted-fine l s e in (
+        sized l (a .0),
+        fine-exactly l s (sized l (a .0)) bytes r .0
+            (a .1, λ i h. ap (λ (x : RowAnswer). x .row) (sym (shows-next i (a .0) (a .1) h) ∙ rows i h)),
+      )
+
+  data-from : (r : ℕ → Row) → Sized l → DataFile l r s → (checkFile l s ≡ Yes) × ((i : ℕ) → i < l .rows → showRow l s (i + 1) ≡ rowAnswer (says (r i)))
+  unfolding checkFile
+  data-from r z t =
+      let f = fine-exactly l s z bytes r .1 t in
+      let a = sized-is l z in
+      (rw (a, f .0), λ i h. shows-next i a (f .0) h ∙ ap (λ (q : Row). rowAnswer (says q)) (f .1 i h))
+
+  pub data-exactly : (r : ℕ → Row)
+      → ((checkFile l s ≡ Yes) × ((i : ℕ) → i < l .rows → showRow l s (i + 1) ≡ rowAnswer (says (r i)))) ↔ (Sized l × DataFile l r s)
+  data-exactly r = (λ x. data-to r (x .0) (x .1), λ x. data-from r (x .0) (x .1))
+
+  -- the data file of no rows
+  abbrev pub NoFile : Type 0
+  NoFile = (r : ℕ → Row) → Sized l → DataFile l r s → ⊥
+
+  accepted-file : checkFile l s ≡ Yes → NoFile → ⊥
+  accepted-file e f =
+      let a = accepted-fine l s e in
+      let z = sized l (a .0) in
+      f (rowAt l s) z (fine-exactly l s z bytes (rowAt l s) .0 (a .1, λ i h. refl))
+
+  pub data-refused : NoFile ↔ ((x : Refusal) × (checkFile l s ≡ No x))
+  data-refused = (λ f. decide f (checkFile l s) refl, λ t r z u. let q : No (t .0) ≡ Yes = sym (t .1) ∙ data-from r z u .0 in clash (cc))
+    where
+      decide : NoFile → (a : Answer) → checkFile l s ≡ a → (x : Refusal) × (checkFile l s ≡ No x)
+      decide f Yes e = absurd (accepted-file e f)
+      decide f (No x) e = (x, e)
+
+  -- what stands behind a row that is shown
+  abbrev sayRow : ℕ → Said Refusal Row
+  sayRow n = must (isSized l) (refused 10 0 0) >> (must (hasRow l n) (refused 15 0 0) >> (fileFine l s >> says (rowAt l s (n - 1))))
+
+  said-row : (n : ℕ) (q : Row) → sayRow n ≡ says q → (checkFile l s ≡ Yes) × (hasRow l n ≡ true)
+  unfolding checkFile
+  said-row n q e =
+      let a = must-told (isSized l) (refused 10 0 0) _ q e in
+      let b = must-told (hasRow l n) (refused 15 0 0) _ q (a .1) in
+      let c = then-told (fileFine l s) (says (rowAt l s (n - 1))) q (b .1) in
+      (rw (a .0, c .0), b .0)
+
+  -- there is no row n
+  abbrev pub NoRow : ℕ → Type 0
+  NoRow n = (n < 1) ⊎ (l .rows < n)
+
+  no-row : (n : ℕ) → hasRow l n ≡ true → NoRow n → ⊥
+  no-row n h k = let t = row-told l n h in ⊎-elim (λ q. omega arith) (λ q. omega arith) k
+
+  row-to : (n : ℕ) → NoFile ⊎ NoRow n → (x : Refusal) × (showRow l s n ≡ record { answer = No x; row = zeroRow })
+  unfolding showRow
+  row-to n w = decide (sayRow n) refl
+    where
+      decide : (y : Said Refusal Row) → sayRow n ≡ y → (x : Refusal) × (showRow l s n ≡ record { answer = No x; row = zeroRow })
+      decide (says q) e = let a = said-row n q e in absurd (⊎-elim (accepted-file (a .0)) (no-row n (a .1)) w)
+      decide (refuses x) e = (x, ap rowAnswer e)
+
+  row-from : (n : ℕ) → (x : Refusal) × (showRow l s n ≡ record { answer = No x; row = zeroRow }) → NoFile ⊎ NoRow n
+  row-from n t =
+      ⊎-elim
+      (λ (h : n < 1). inr (inl h))
+      (λ (h : 1 ≤ n).
+      ⊎-elim
+      (λ (k : l .rows < n). inr (inr k))
+      (λ (k : n ≤ l .rows).
+      inl (λ r z u.
+      let f = fine-exactly l s z bytes r .1 u in
+      let e = shows l s n (sized-is l z) (f .0) (has l n h k) in
+      let q : No (t .0) ≡ Yes = ap (λ (x : RowAnswer). x .answer) (sym (t .1) ∙ e) in
+      clash (cc)))
+      (lt-or-ge (l .rows) n))
+      (lt-or-ge n 1)
+
+  pub row-refused : (n : ℕ) → (NoFile ⊎ NoRow n) ↔ ((x : Refusal) × (showRow l s n ≡ record { answer = No x; row = zeroRow }))
+  row-refused n = (row-to n, row-from n)

@@ -3,3 +3,4 @@ pub mod BinaryLaws
 pub mod FieldLaws
 pub mod TextLaws
 pub mod FileLaws
+pub mod StandLaws

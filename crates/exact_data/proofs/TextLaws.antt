@@ -4,7 +4,7 @@
 --     text-exactly       a file is accepted as text, and its rows are r 0, r 1, .., exactly when it is the text of these rows
 -- Assumes nothing.
 use mathlib.Core.Path.{_≡_, refl, sym, ap, subst, _∙_}
-use mathlib.Core.Logic.{_↔_, _⊎_, inl, inr}
+use mathlib.Core.Logic.{_↔_, inl, inr}
 use mathlib.Core.Bool.{Bool, true, false, _&&_}
 use mathlib.Core.List.{List, [], _∷_, _++_, append-assoc}
 use Prim.Native.Nat.{ℕ, zero, suc, _+_, _≤_, _<_}
@@ -45,7 +45,7 @@ use Rattle.texts.proofs.RoundLaws.{status-back}
 use Rattle.texts.proofs.PlainLaws.{status-again}
 use Rattle.paper.specs.Fields.{CountField}
 use Rattle.paper.specs.Lines.{ended}
-use Rattle.paper.specs.Data.{sampleOf, statusOf, SampleField, TextLine, TextFile}
+use Rattle.paper.specs.Data.{sampleOf, statusOf, SampleField, TextLine, TextEnding, TextFile}
 use Rattle.exact.proofs.CountLaws.{count-exactly}
 use Rattle.exact.proofs.WholeLaws.{whole-exactly}
 use Rattle.exact_data.proofs.FieldLaws.{fields-exactly}
@@ -126,7 +126,7 @@ module _ (l : Layout) (n : ℕ) (line : List ℕ) where
   pub line-exactly : (r : Row) → ((checkLine l n line ≡ says tt) × (rowOf l line ≡ r)) ↔ TextLine l n r line
   line-exactly r = (λ a. line-to r (a .0) (a .1), λ t. (line-fine r t, line-says r t))
 
-ending-to : (s : List ℕ) → isEnding s ≡ true → (s ≡ []) ⊎ ((s ≡ 26 ∷ []) ⊎ (s ≡ 26 ∷ quoted "\r\n"))
+ending-to : (s : List ℕ) → isEnding s ≡ true → TextEnding s
 unfolding isEnding
 ending-to [] e = inl refl
 ending-to (b ∷ []) e = inr (inl (ap (λ (x : ℕ). x ∷ []) (eqb-true b 26 e)))
@@ -137,13 +137,13 @@ ending-to (b ∷ c ∷ d ∷ []) e =
     inr (inr (rw (eqb-true b 26 (y .0), eqb-true c 13 (y .1), eqb-true d 10 (x .1))))
 ending-to (b ∷ c ∷ d ∷ f ∷ s) e = clash (cc)
 
-ending-from : (s : List ℕ) → (s ≡ []) ⊎ ((s ≡ 26 ∷ []) ⊎ (s ≡ 26 ∷ quoted "\r\n")) → isEnding s ≡ true
+ending-from : (s : List ℕ) → TextEnding s → isEnding s ≡ true
 unfolding isEnding
 ending-from s (inl e) = rw e
 ending-from s (inr (inl e)) = rw e
 ending-from s (inr (inr e)) = rw e
 
-pub ending-exactly : (s : List ℕ) → isEnding s ≡ true ↔ ((s ≡ []) ⊎ ((s ≡ 26 ∷ []) ⊎ (s ≡ 26 ∷ quoted "\r\n")))
+pub ending-exactly : (s : List ℕ) → isEnding s ≡ true ↔ TextEnding s
 ending-exactly s = (ending-to s, ending-from s)
 
 -- m rows from row n on, line 0, line 1, .., and then an ending, as the check goes through them
@@ -155,7 +155,7 @@ record TextRows (l : Layout) (n m : ℕ) (s : List ℕ) (line : ℕ → List ℕ
   ending : isEnding end ≡ true
 
 -- the first row, and the others
-rows-front : (line : ℕ → List ℕ) (m : ℕ) (end : List ℕ)
+pub rows-front : (line : ℕ → List ℕ) (m : ℕ) (end : List ℕ)
     → cat (λ i. ended (line i)) (suc m) ++ end ≡ line 0 ++ 13 ∷ 10 ∷ (cat (λ i. ended (line (i + 1))) m ++ end)
 rows-front line m end =
     let more = cat (λ i. ended (line (i + 1))) m in

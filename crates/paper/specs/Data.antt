@@ -50,14 +50,18 @@ pub record TextLine (l : Layout) (n : ℕ) (r : Row) (line : List ℕ) : Type 0 
   pub statuses : (i : ℕ) → i < l .statuses → f (3 + l .analogs + i) ≡ (if statusOf r i then quoted "1" else quoted "0")
   pub beyond : trimmed l r ≡ r
 
--- a text whose rows are r 0, r 1, ..: a line for each, with CR LF, and after the last nothing, 1A, or 1A 0D 0A
+-- what may follow the last row: nothing, 1A, or 1A 0D 0A
+abbrev pub TextEnding : List ℕ → Type 0
+TextEnding e = (e ≡ []) ⊎ ((e ≡ 26 ∷ []) ⊎ (e ≡ 26 ∷ quoted "\r\n"))
+
+-- a text whose rows are r 0, r 1, ..: a line for each, with CR LF, and after the last one of these endings
 pub record TextFile (l : Layout) (r : ℕ → Row) (s : List ℕ) : Type 0 where
   pub line : ℕ → List ℕ
   pub end : List ℕ
   pub whole : s ≡ cat (λ i. ended (line i)) (l .rows) ++ end
   pub each : (i : ℕ) → i < l .rows → Line (TextLine l (i + 1) (r i)) (line i)
   pub short : (i : ℕ) → i < l .rows → length (line i) ≤ 1880
-  pub ends : (end ≡ []) ⊎ ((end ≡ 26 ∷ []) ⊎ (end ≡ 26 ∷ quoted "\r\n"))
+  pub ends : TextEnding end
 
 -- THE BINARY KINDS
 -- the number that bytes hold, low byte first
@@ -77,6 +81,10 @@ words l = (l .statuses + 15) / 16
 abbrev pub samplesEnd : Layout → ℕ
 samplesEnd l = 8 + l .analogs * widthOf (l .kind)
 
+-- how many bytes a row has: number and timestamp, samples, status words
+abbrev pub rowSize : Layout → ℕ
+rowSize l = samplesEnd l + 2 * words l
+
 -- bit k of v is on
 abbrev pub isOn : ℕ → ℕ → Bool
 isOn k v = eqb (v / 2 ^ k % 2) 1
@@ -87,7 +95,7 @@ statusWord l j b = lowFirst (part (samplesEnd l + 2 * j) (samplesEnd l + 2 * j +
 
 -- the bytes of row n, which is r: number, timestamp, A samples, status words, of which bit 0 of the first is status 1 and bits past D are zero; r is zero past A and D
 pub record BinaryRow (l : Layout) (n : ℕ) (r : Row) (b : List ℕ) : Type 0 where
-  pub size : length b ≡ samplesEnd l + 2 * words l
+  pub size : length b ≡ rowSize l
   pub number : lowFirst (part 0 4 b) ≡ n
   pub time : lowFirst (part 4 8 b) ≡ r .time
   pub samples : (i : ℕ) → i < l .analogs → TwosComplement (widthOf (l .kind)) (lowFirst (part (8 + i * widthOf (l .kind)) (8 + i * widthOf (l .kind) + widthOf (l .kind)) b)) (sampleOf r i)

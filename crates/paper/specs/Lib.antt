@@ -2,3 +2,4 @@ pub mod Configuration
 pub mod Data
 pub mod Lines
 pub mod Fields
+pub mod Written

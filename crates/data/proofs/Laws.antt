@@ -60,6 +60,7 @@ accepted-fine l s e = must-told (isSized l) (refused 10 0 0) (fileFine l s) tt (
 -- row r, the n-th, is written in these bytes, where there is room for so many
 pub record Writable (l : Layout) (n : ℕ) (r : Row) (room : ℕ) (new : List ℕ) : Type 0 where
   pub fit : Sized l
+  pub there : hasRow l n ≡ true
   pub all : misfitOf l r ≡ l .analogs
   pub bytes : new ≡ bytesOf l n r
   pub within : length new ≤ room
@@ -77,4 +78,4 @@ writable l n r room new e =
     let c = must-told (eqb i (l .analogs)) (refused 16 n (3 + i)) roomy new (b .1) in
     let d = must-told (leb (length k) room) (refused 17 0 0) (says k) new (c .1) in
     let s : new ≡ k = cc (d .1) in
-    record { fit = sized l (a .0); all = eqb-true i (l .analogs) (c .0); bytes = s; within = rw s (leb-true (length k) room (d .0)) }
+    record { fit = sized l (a .0); there = b .0; all = eqb-true i (l .analogs) (c .0); bytes = s; within = rw s (leb-true (length k) room (d .0)) }

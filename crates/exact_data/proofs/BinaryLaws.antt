@@ -4,20 +4,20 @@
 -- Assumes nothing.
 use mathlib.Core.Path.{_≡_, sym, ap, subst, _∙_}
 use mathlib.Core.Logic.{_↔_, ⊎-elim}
-use mathlib.Core.Bool.{Bool, true, false, _&&_}
-use mathlib.Core.List.{List, _++_}
-use Prim.Native.Nat.{ℕ, zero, suc, _+_, _*_, _/_, _%_, _<_, _≤_}
+use mathlib.Core.Bool.{true, false, _&&_}
+use mathlib.Core.List.{List}
+use Prim.Native.Nat.{ℕ, _+_, _*_, _/_, _%_, _<_, _≤_}
 use native.Mathlib.Omega.{arith}
 use borrow.Author.Tests.{eq-eqb, eqb-true, lt-ltb, le-ltb}
 use lib.Dec.{eqb, ltb}
 use lib.IntN.{ℤ, pos}
 use lib.ListN.{length}
-use lib.Seq.{take-append-seam, drop-append-seam}
 use Rattle.lists.specs.Said.{says}
-use Rattle.lists.specs.Tables.{part, cat, every}
+use Rattle.lists.specs.Tables.{part, every}
 use Rattle.lists.proofs.Cases.{lt-or-ge}
-use Rattle.lists.proofs.Every.{every-take, every-drop}
+use Rattle.lists.proofs.Every.{every-piece}
 use Rattle.lists.proofs.Filled.{getD-padded}
+use Rattle.lists.proofs.Parts.{part-part}
 use Rattle.lists.proofs.Tables.{block-end, tab-ext, cat-ext, cat-part, part-cat}
 use Rattle.words.specs.Words.{wordOf, isByte}
 use Rattle.words.proofs.WordLaws.{bytes-part, wordOf-part-lt}
@@ -34,7 +34,7 @@ use Rattle.binaries.specs.Files.{rowBytes, checkBinary, binaryRow, binaryFile}
 use Rattle.binaries.proofs.Laws.{row-length, whole}
 use Rattle.binaries.proofs.FileLaws.{binary-accepted, row-there}
 use Rattle.paper.specs.Data.{sampleOf, statusOf, lowFirst, TwosComplement, isOn, statusWord, BinaryRow, BinaryFile}
-use Rattle.exact_data.proofs.NumberLaws.{low-first, twos-exactly, part-part, padding-exactly}
+use Rattle.exact_data.proofs.NumberLaws.{low-first, twos-exactly, padding-exactly}
 
 -- the bytes of a row
 module _ (l : Layout) (b : List ℕ) (bytes : every isByte b ≡ true) (size : length b ≡ rowSize l) where
@@ -133,14 +133,6 @@ module _ (l : Layout) (n : ℕ) (r : Row) (b : List ℕ) (bytes : every isByte b
 
   pub row-exactly : BinaryRow l n r b ↔ Reads l n r b
   row-exactly = (row-to, row-from)
-
--- pieces of bytes are bytes
-every-piece : {A : Type 0} (p : A → Bool) (f : ℕ → List A) (n : ℕ) → every p (cat f n) ≡ true → (i : ℕ) → i < n → every p (f i) ≡ true
-every-piece p f zero h i k = absurd (omega arith)
-every-piece p f (suc n) h i k =
-    let front : every p (cat f n) ≡ true = rw take-append-seam at (every-take p (length (cat f n)) (cat f n ++ f n) h) in
-    let back : every p (f n) ≡ true = rw drop-append-seam at (every-drop p (length (cat f n)) (cat f n ++ f n) h) in
-    ⊎-elim (λ q. every-piece p f n front i q) (λ q. let e : i ≡ n = omega arith in rw e back) (lt-or-ge i n)
 
 -- a file of a binary kind, of a sized layout
 module _ (l : Layout) (r : ℕ → Row) (s : List ℕ) (sized : Sized l) (bytes : every isByte s ≡ true) where

@@ -1,13 +1,13 @@
 -- Data files of every kind, exactly, on the calls.
---     sized-is                   a layout within the sizes passes the test
 --     as-text, as-binary         a data file, by the kind
+--     same-file                  the same rows, where there are rows
 --     fine-exactly               a file is fine, and its rows are r 0, r 1, .., exactly when it is the data file of these rows
 --     one-file                   a file is the data file of one row of rows alone
 --     data-exactly               a file is accepted, and these rows are shown, exactly when the layout is sized and it is the data file of these rows
 --     data-refused               a file is refused exactly when it is the data file of no rows
 --     row-refused                a row is refused, with zeros beside it, exactly when the file is, or when there is no such row
 -- Assumes nothing.
-use mathlib.Core.Path.{_≡_, refl, sym, ap, _∙_}
+use mathlib.Core.Path.{_≡_, refl, sym, ap, subst, _∙_}
 use mathlib.Core.Logic.{_↔_, _⊎_, inl, inr, ⊎-elim}
 use mathlib.Core.Bool.{true}
 use mathlib.Core.List.{List}
@@ -29,27 +29,17 @@ use Rattle.model.specs.declared.Answer.the-variants.{Yes, No}
 use Rattle.model.specs.Layouts.{isSized, Sized}
 use Rattle.model.specs.Refusals.{refused}
 use Rattle.model.specs.Rows.{zeroRow}
-use Rattle.model.proofs.LayoutLaws.{sized}
+use Rattle.model.proofs.LayoutLaws.{sized, sized-is}
 use Rattle.binaries.specs.Files.{checkBinary, binaryRow}
 use Rattle.texts.specs.Files.{checkText, textRow}
 use Rattle.data.specs.declared.RowAnswer.{RowAnswer}
 use Rattle.data.specs.Files.{fileFine, rowAt, hasRow, checkFile, rowAnswer, showRow}
 use Rattle.data.proofs.Laws.{text-kind, binary-kind, row-told, accepted-fine}
 use Rattle.data.proofs.FileLaws.{by-kind}
-use Rattle.paper.specs.Data.{TextFile, BinaryFile, FileOf, DataFile}
+use Rattle.paper.specs.Lines.{Line}
+use Rattle.paper.specs.Data.{TextLine, TextFile, BinaryRow, BinaryFile, FileOf, DataFile}
 use Rattle.exact_data.proofs.BinaryLaws.{binary-exactly}
 use Rattle.exact_data.proofs.TextLaws.{text-exactly}
-
-pub sized-is : (l : Layout) → Sized l → isSized l ≡ true
-unfolding isSized
-sized-is l s =
-    rw (
-      le-leb (l .analogs) 96 (s .analogs),
-      le-leb (l .statuses) 256 (s .statuses),
-      le-leb 1 (l .analogs + l .statuses) (s .channels),
-      le-leb 1 (l .rows) (s .some-rows),
-      le-leb (l .rows) 1000000 (s .rows),
-    )
 
 -- a data file of a kind
 module _ (l : Layout) (r : ℕ → Row) (s : List ℕ) where
@@ -60,6 +50,27 @@ module _ (l : Layout) (r : ℕ → Row) (s : List ℕ) where
   as-binary Ascii e = absurd (e refl)
   as-binary Binary e = (λ t. t, λ t. t)
   as-binary Binary32 e = (λ t. t, λ t. t)
+
+-- only the rows that there are count
+module _ (l : Layout) (r q : ℕ → Row) (s : List ℕ) (e : (i : ℕ) → i < l .rows → r i ≡ q i) where
+  same-text : TextFile l r s → TextFile l q s
+  same-text t =
+      record {
+        line = t .line;
+        end = t .end;
+        whole = t .whole;
+        each = λ i h. subst (λ (x : Row). Line (TextLine l (i + 1) x) (t .line i)) (e i h) (t .each i h);
+        short = t .short;
+        ends = t .ends;
+      }
+
+  same-binary : BinaryFile l r s → BinaryFile l q s
+  same-binary t = record { bytes = t .bytes; whole = t .whole; each = λ i h. subst (λ (x : Row). BinaryRow l (i + 1) x (t .bytes i)) (e i h) (t .each i h) }
+
+  pub same-file : (k : Kind) → FileOf k l r s → FileOf k l q s
+  same-file Ascii = same-text
+  same-file Binary = same-binary
+  same-file Binary32 = same-binary
 
 -- the rows of s are r 0, r 1, ..
 abbrev pub RowsAre : Layout → (ℕ → Row) → List ℕ → Type 0

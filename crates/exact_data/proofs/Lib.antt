@@ -1,6 +1,7 @@
 pub mod NumberLaws
 pub mod BinaryLaws
-pub mod FieldLaws
 pub mod TextLaws
 pub mod FileLaws
 pub mod StandLaws
+pub mod PlainLaws
+pub mod ChangeLaws

@@ -2,7 +2,6 @@
 --     low-first                      the number that bytes hold
 --     twos-exactly                   two's complement
 --     range-exactly                  a sample in the range of a kind fits it
---     part-part                      a part of a part
 --     no-bits                        a number of which no bit is on is zero
 --     padding-exactly                status words have no padding bit exactly when each of their bits past d is off
 -- Assumes nothing.
@@ -16,15 +15,12 @@ use native.Mathlib.Omega.{arith}
 use borrow.Author.Tests.{eq-eqb, ne-eqb, eqb-true, eqb-false, le-ltb, ltb-false}
 use lib.Dec.{eqb, ltb}
 use lib.IntN.{ℤ, pos, negsuc, subℕ, _+ℤ_}
-use lib.ListN.{length, drop, take-append-drop}
 use lib.Pow.{pow-mono, shr-shr, shr-lt}
-use lib.Seq.{drop-drop}
 use lib.Signed.{ltZ, ltZ-no, ltZ-yes, clashℤ, _≤ℤ_}
-use Rattle.lists.specs.Tables.{part, tab, every}
+use Rattle.lists.specs.Tables.{tab, every}
 use Rattle.lists.proofs.Cases.{on-test, lt-or-ge, clash}
 use Rattle.lists.proofs.Every.{and-split, and-join}
 use Rattle.lists.proofs.Filled.{tab-front}
-use Rattle.lists.proofs.Parts.{length-part, part-front}
 use Rattle.lists.proofs.Tables.{tab-ext}
 use Rattle.words.specs.Words.{wordOf, isByte}
 use Rattle.words.specs.Signed.{half, signedOf}
@@ -81,15 +77,6 @@ range-exactly k z = (
       record { low = not-below z (lowestOf k) .0 (s .0); high = not-below (highestOf k) z .0 (s .1) },
   λ r. and-join (not (ltZ z (lowestOf k))) (not (ltZ (highestOf k) z)) (not-below z (lowestOf k) .1 (r .low)) (not-below (highestOf k) z .1 (r .high)),
 )
-
-pub part-part : {A : Type 0} (a e f t : ℕ) (l : List A) → f ≤ t → a + t ≤ e → e ≤ length l → part f t (part a e l) ≡ part (a + f) (a + t) l
-part-part a e f t l h k w =
-    let x = part a e l in
-    let n : length x ≡ e - a = length-part a e l w in
-    let q : a + t - (a + f) ≡ t - f = omega arith in
-    sym (part-front f t x (drop (e - a) (drop a l)) h (omega arith))
-    ∙ ap (part f t) (take-append-drop (e - a) (drop a l))
-    ∙ rw (drop-drop f a l, q)
 
 packed-none : (k : ℕ) → packed (tab (λ i. false) k) ≡ 0
 unfolding packed

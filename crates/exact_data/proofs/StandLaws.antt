@@ -3,21 +3,21 @@
 --     lines-apart                a text that begins with a line begins with no other
 --     same-lines                 so lines in a row are found again
 --     row-stands                 where the bytes of a row that can be written stand in a data file as row n, row n of the file is that row, its places past A and D zero
---     rows-stand                 bytes of rows that can be written, one after the other, and an ending are the data file of these rows
+--     rows-stand, bytes-stand    bytes of rows that can be written, one after the other, and an ending are the data file of these rows, and bytes
 -- Assumes nothing.
 use mathlib.Core.Path.{_≡_, refl, sym, ap, _∙_}
-use mathlib.Core.Logic.{_↔_}
+use mathlib.Core.Logic.{_↔_, inl, inr}
 use mathlib.Core.Bool.{true, _&&_}
 use mathlib.Core.List.{List, [], _∷_, _++_, append-assoc, append-nil}
 use Prim.Native.Nat.{ℕ, zero, suc, _+_, _-_, _*_, _≤_, _<_}
 use native.Mathlib.Numerals.{add-one}
 use native.Mathlib.Omega.{arith}
-use borrow.Author.Tests.{leb-true}
+use borrow.Author.Tests.{lt-ltb, leb-true}
 use lib.Dec.{leb}
 use lib.ListN.{length}
 use lib.Seq.{drop-at, take-at}
 use Rattle.lists.specs.Tables.{cat, every}
-use Rattle.lists.proofs.Every.{and-split}
+use Rattle.lists.proofs.Every.{and-split, every-append, every-cat, every-imply}
 use Rattle.lists.proofs.Tables.{cat-ext, cat-split}
 use Rattle.words.specs.Words.{isByte}
 use Rattle.model.specs.declared.Kind.{Kind}
@@ -182,6 +182,30 @@ module _ (l : Layout) (r : ℕ → Row) (size : Sized l) (w : (i : ℕ) → i < 
               row = laws.row-back l (i + 1) (r i) (w i k .all) (w i k .time);
             });
       }
+
+  -- and they are bytes
+  text-bytes : (i : ℕ) → every isByte (textOf l (i + 1) (r i)) ≡ true
+  unfolding textOf
+  text-bytes i =
+      let line = lineOf l (i + 1) (r i) in
+      every-append isByte line (13 ∷ 10 ∷ [])
+      (every-imply (λ b. leb 32 b && leb b 126) isByte line (λ b h. lt-ltb b 256 (omega (arith, leb-true b 126 (and-split (leb 32 b) (leb b 126) h .1)))) (line-bytes-plain l (i + 1) (r i))) refl
+
+  row-bytes : (i : ℕ) → every isByte (bytesOf l (i + 1) (r i)) ≡ true
+  row-bytes i =
+      by-kind (l .kind)
+      (λ e. rw (bytes-text l e (i + 1) (r i)) (text-bytes i))
+      (λ e. rw (bytes-binary l e (i + 1) (r i)) (laws.bytes-row l (i + 1) (r i)))
+
+  pub bytes-stand : (end : List ℕ) → EndingOf (l .kind) end → every isByte (rows ++ end) ≡ true
+  bytes-stand end h = every-append isByte rows end (every-cat isByte (λ i. bytesOf l (i + 1) (r i)) (l .rows) (λ i k. row-bytes i)) (go (l .kind) h)
+    where
+      go : (k : Kind) → EndingOf k end → every isByte end ≡ true
+      go Ascii (inl e) = rw e
+      go Ascii (inr (inl e)) = rw e
+      go Ascii (inr (inr e)) = rw e
+      go Binary e = rw e
+      go Binary32 e = rw e
 
   pub rows-stand : (end : List ℕ) → EndingOf (l .kind) end → DataFile l (λ i. trimmed l (r i)) (rows ++ end)
   rows-stand end h =

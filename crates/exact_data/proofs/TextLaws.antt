@@ -48,7 +48,7 @@ use Rattle.paper.specs.Lines.{ended}
 use Rattle.paper.specs.Data.{sampleOf, statusOf, SampleField, TextLine, TextEnding, TextFile}
 use Rattle.exact.proofs.CountLaws.{count-exactly}
 use Rattle.exact.proofs.WholeLaws.{whole-exactly}
-use Rattle.exact_data.proofs.FieldLaws.{fields-exactly}
+use Rattle.exact.proofs.CommaLaws.{fields-exactly, fields-of}
 use Rattle.exact_data.proofs.NumberLaws.{range-exactly}
 
 -- a status is one character
@@ -72,7 +72,7 @@ module _ (l : Layout) (n : ℕ) (line : List ℕ) where
   line-own t =
       record {
         f = λ i. fieldAt i line;
-        fields = fields-exactly (2 + l .analogs + l .statuses) (λ i. fieldAt i line) line (omega arith) .0 (t .count, λ i h k. refl);
+        fields = fields-of (fieldsOf l) line (omega arith) (t .count);
         number = count-exactly 10 n (fieldAt 1 line) .0 (t .number);
         time = count-exactly 13 (timeIn (fieldAt 2 line)) (fieldAt 2 line) .0 (time-read (fieldAt 2 line) (t .time));
         early = omega (arith, time-below (fieldAt 2 line));
@@ -92,7 +92,7 @@ module _ (l : Layout) (n : ℕ) (line : List ℕ) where
   -- the fields of a line that says r
   module _ (r : Row) (t : TextLine l n r line) where
     the-fields : (fieldCount line ≡ fieldsOf l) × ((i : ℕ) → 1 ≤ i → i ≤ fieldsOf l → fieldAt i line ≡ t .f i)
-    the-fields = fields-exactly (fieldsOf l) (t .f) line (omega arith) .1 (t .fields)
+    the-fields = fields-exactly (fieldsOf l) (t .f) line (omega arith) .0 (t .fields)
 
     status-field : (i : ℕ) → i < l .statuses → fieldAt (3 + l .analogs + i) line ≡ statusChar (statusOf r i) ∷ []
     status-field i h = the-fields .1 (3 + l .analogs + i) (omega arith) (omega arith) ∙ t .statuses i h ∙ sym (status-char (statusOf r i))

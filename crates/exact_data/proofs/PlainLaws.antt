@@ -1,0 +1,147 @@
+-- Plain texts, exactly.
+--     count-plain, whole-plain     plain counts and plain whole numbers, by their characters
+--     plain-told, plain-is         a plain line passes the test, and a line that is written is plain
+--     plain-only                   a plain text with given rows is what is written of them
+--     plain-there                  and what is written is one
+-- Assumes nothing.
+use mathlib.Core.Path.{_≡_, refl, sym, ap, subst, _∙_}
+use mathlib.Core.Logic.{_↔_, inl, inr}
+use mathlib.Core.Bool.{true, false, not, _||_}
+use mathlib.Core.List.{List, [], _∷_, _++_}
+use Prim.Native.Nat.{ℕ, zero, suc, _+_, _≤_, _<_}
+use native.Mathlib.Omega.{arith}
+use borrow.Author.Tests.{eq-eqb, ne-eqb, eqb-true, eqb-false, leb-true}
+use lib.Dec.{eqb, leb}
+use lib.ListN.{length, getD}
+use Rattle.lists.specs.Quoted.{quoted}
+use Rattle.lists.specs.Tables.{every}
+use Rattle.lists.proofs.Cases.{on-test, clash}
+use Rattle.lists.proofs.Every.{and-split, and-join}
+use Rattle.lists.proofs.Tables.{cat-ext}
+use Rattle.text.specs.Fields.{fieldAt}
+use Rattle.numerals.specs.Counts.{isDigit}
+use Rattle.numerals.specs.Decimals.{isPlainCount, isPlain}
+use Rattle.numerals.proofs.PlainLaws.{decimal-plain}
+use Rattle.numerals.proofs.WholeLaws as numbers
+use Rattle.model.specs.declared.Layout.{Layout}
+use Rattle.model.specs.declared.Row.{Row}
+use Rattle.ascii.specs.Rows.{fieldsOf}
+use Rattle.ascii.proofs.LineLaws.{line-told}
+use Rattle.plain.specs.Rows.{lineOf, textOf}
+use Rattle.plain.proofs.LineLaws.{line-bytes-plain, fields-line, number-field, time-field, sample-field}
+use Rattle.texts.specs.Files.{mark, textFile, plainSamples, plainLine}
+use Rattle.texts.proofs.PlainLaws.{line-again}
+use Rattle.paper.specs.Fields.{isBetween}
+use Rattle.paper.specs.Lines.{ended}
+use Rattle.paper.specs.Data.{sampleOf, TextFile}
+use Rattle.paper.specs.Written.{PlainCount, PlainWhole, PlainLine, PlainText}
+use Rattle.exact.proofs.CountLaws.{digits-to, digits-from}
+use Rattle.exact.proofs.CommaLaws.{fields-exactly, fields-of}
+use Rattle.exact_data.proofs.TextLaws.{line-exactly}
+use Rattle.exact_data.proofs.StandLaws.{same-lines}
+
+count-to : (f : List ℕ) → isPlainCount f ≡ true → PlainCount f
+unfolding isPlainCount
+count-to [] e = record { number = clash (cc); needed = λ h q. clash (cc) }
+count-to (b ∷ l) e =
+    let s = and-split (every isDigit (b ∷ l)) (eqb (length l) 0 || not (eqb b 48)) e in
+    record {
+      number = record { some = omega arith; all = digits-from (b ∷ l) (s .0) };
+      needed = λ h q. let x : false ≡ true = rw (ne-eqb (length l) 0 (λ z. omega arith), eq-eqb b 48 q) at (s .1) in clash (cc);
+    }
+
+count-from : (f : List ℕ) → PlainCount f → isPlainCount f ≡ true
+unfolding isPlainCount
+count-from [] p = absurd (omega (arith, p .number .some))
+count-from (b ∷ l) p =
+    and-join (every isDigit (b ∷ l)) (eqb (length l) 0 || not (eqb b 48)) (digits-to (b ∷ l) (p .number .all))
+    (on-test (eqb (length l) 0) (λ t. rw t) (λ t. let n = eqb-false (length l) 0 t in rw (t, ne-eqb b 48 (p .needed (some-more (length l) n)))))
+  where
+    some-more : (n : ℕ) → (n ≡ 0 → ⊥) → 2 ≤ suc n
+    some-more zero h = absurd (h refl)
+    some-more (suc n) h = omega arith
+
+pub count-plain : (f : List ℕ) → isPlainCount f ≡ true ↔ PlainCount f
+count-plain f = (count-to f, count-from f)
+
+whole-to : (f : List ℕ) → isPlain f ≡ true → PlainWhole f
+unfolding isPlain
+whole-to [] e = clash (cc)
+whole-to (b ∷ l) e =
+    on-test (eqb b 45)
+    (λ t.
+    let s = and-split (isPlainCount l) (not (eqb (getD l 0 0) 48)) (rw t at e) in
+    inr (l, ap (λ (x : ℕ). x ∷ l) (eqb-true b 45 t), count-to l (s .0), λ q. let x : false ≡ true = rw q at (s .1) in clash (cc)))
+    (λ t. inl (count-to (b ∷ l) (rw t at e)))
+
+-- a plain count that is not 0 does not begin with 0
+not-zero : (d : List ℕ) → PlainCount d → (d ≡ quoted "0" → ⊥) → not (eqb (getD d 0 0) 48) ≡ true
+not-zero [] p h = absurd (omega (arith, p .number .some))
+not-zero (c ∷ []) p h = rw (ne-eqb c 48 (λ e. h (ap (λ (x : ℕ). x ∷ []) e)))
+not-zero (c ∷ d ∷ l) p h = rw (ne-eqb c 48 (p .needed (omega arith)))
+
+-- a digit is no minus
+no-minus : (b : ℕ) (l : List ℕ) → PlainCount (b ∷ l) → eqb b 45 ≡ false
+no-minus b l p =
+    let s = and-split (isBetween 48 57 b) (every (isBetween 48 57) l) (p .number .all) in
+    let low = leb-true 48 b (and-split (leb 48 b) (leb b 57) (s .0) .0) in
+    ne-eqb b 45 (λ e. omega arith)
+
+whole-from : (f : List ℕ) → PlainWhole f → isPlain f ≡ true
+unfolding isPlain
+whole-from [] (inl p) = absurd (omega (arith, p .number .some))
+whole-from (b ∷ l) (inl p) = rw (no-minus b l p) (count-from (b ∷ l) p)
+whole-from f (inr (d, e, p, h)) = rw e (and-join (isPlainCount d) (not (eqb (getD d 0 0) 48)) (count-from d p) (not-zero d p h))
+
+pub whole-plain : (f : List ℕ) → isPlain f ≡ true ↔ PlainWhole f
+whole-plain f = (whole-to f, whole-from f)
+
+samples-are : (line : List ℕ) (a : ℕ) → ((i : ℕ) → i < a → isPlain (fieldAt (3 + i) line) ≡ true) → plainSamples line a ≡ true
+unfolding plainSamples
+samples-are line zero h = refl
+samples-are line (suc a) h = rw (samples-are line a (λ i k. h i (omega arith)), h a (omega arith))
+
+pub plain-told : (l : Layout) (line : List ℕ) → PlainLine l line → plainLine l line ≡ true
+unfolding plainLine
+plain-told l line p =
+    let f = fields-exactly (fieldsOf l) (p .f) line (omega arith) .0 (p .fields) .1 in
+    rw (
+      f 1 (omega arith) (omega arith),
+      count-from (p .f 1) (p .number),
+      f 2 (omega arith) (omega arith),
+      count-from (p .f 2) (p .time),
+    )
+    (samples-are line (l .analogs) (λ i h. rw (f (3 + i) (omega arith) (omega arith)) (whole-from (p .f (3 + i)) (p .samples i h))))
+
+pub plain-is : (l : Layout) (n : ℕ) (r : Row) → PlainLine l (lineOf l n r)
+plain-is l n r =
+    record {
+      f = λ i. fieldAt i (lineOf l n r);
+      fields = fields-of (fieldsOf l) (lineOf l n r) (omega arith) (fields-line l n r);
+      number = rw (number-field l n r) (count-to _ (decimal-plain n));
+      time = rw (time-field l n r) (count-to _ (decimal-plain (r .time)));
+      samples = λ i h. rw (sample-field l n r i h) (whole-to _ (numbers.plain-is (sampleOf r i)));
+    }
+
+pub plain-there : (l : Layout) (r : ℕ → Row) → PlainText l (textFile l r)
+unfolding textOf
+plain-there l r =
+    record {
+      line = λ i. lineOf l (i + 1) (r i);
+      whole = refl;
+      each = λ i h. record { bytes = line-bytes-plain l (i + 1) (r i); is = plain-is l (i + 1) (r i) };
+    }
+
+pub plain-only : (l : Layout) (r : ℕ → Row) (s : List ℕ) → TextFile l r s → PlainText l s → s ≡ textFile l r
+unfolding textOf
+plain-only l r s t p =
+    let x = same-lines (p .line) (t .line) (l .rows) mark (t .end) (λ i h. p .each i h .bytes) (λ i h. t .each i h .bytes) (sym (p .whole) ∙ t .whole) .0 in
+    p .whole
+    ∙ ap (λ (y : List ℕ). y ++ mark)
+    (cat-ext (λ i. ended (p .line i)) (λ i. textOf l (i + 1) (r i)) (l .rows)
+    (λ i h.
+    let line = t .line i in
+    let f = line-exactly l (i + 1) line (r i) .1 (t .each i h .is) in
+    let q = plain-told l line (subst (PlainLine l) (x i h) (p .each i h .is)) in
+    let again : lineOf l (i + 1) (r i) ≡ line = ap (lineOf l (i + 1)) (sym (f .1)) ∙ line-again l (i + 1) line (line-told l (i + 1) line (f .0)) q in
+    ap ended (x i h ∙ sym again)))

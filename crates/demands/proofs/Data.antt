@@ -1,5 +1,6 @@
 -- The demands on written rows and on the change of kind, told without a reader or a writer (crate `paper`, Data and Written).
 -- Demand 2, which files are accepted and what is shown of them, is data-exactly, data-refused and row-refused (crate `exact_data`, proofs/FileLaws.antt).
+--     written-exactly        demand 2: a row is written exactly when its samples are in range
 --     written-stands         demand 2: a row that was written, standing in a data file as row n, is shown as it was written, its places past A and D zero
 --     three-endings          demand 2: rows that were written, one after the other, and any of the endings are the data file of these rows
 --     refused-outside        demand 3: a change is refused with 16 at a sample exactly when that is the first outside the new kind's range
@@ -14,6 +15,7 @@ use mathlib.Core.Bool.{true}
 use mathlib.Core.List.{List, _++_}
 use Prim.Native.Nat.{ℕ, _+_, _-_, _≤_, _<_}
 use native.Mathlib.Omega.{arith}
+use borrow.Author.Tests.{eq-eqb, le-leb}
 use lib.ListN.{length}
 use Rattle.lists.specs.Said.{says, refuses}
 use Rattle.lists.specs.Tables.{cat, every}
@@ -28,20 +30,40 @@ use Rattle.model.specs.declared.Answer.the-variants.{Yes}
 use Rattle.model.specs.Layouts.{Sized, inKind}
 use Rattle.model.specs.Refusals.{refused}
 use Rattle.model.specs.Rows.{trimmed}
-use Rattle.data.specs.Files.{bytesOf, checkFile, rowAnswer, showRow, writeSaid, fileOf}
+use Rattle.data.specs.Files.{bytesOf, hasRow, misfitOf, checkFile, rowAnswer, showRow, writeSaid, fileOf}
+use Rattle.model.proofs.LayoutLaws.{sized-is}
 use Rattle.data.proofs.Laws.{row-told, writable}
 use Rattle.data.proofs.FileLaws.{Writes}
 use Rattle.change.specs.Change.{changeSaid}
 use Rattle.paper.specs.Data.{TextFile, DataFile}
-use Rattle.paper.specs.Written.{Stands, EndingOf, PlainText, Restored, AllInRange, FirstOutside}
+use Rattle.paper.specs.Written.{Fitting, Stands, EndingOf, PlainText, Restored, AllInRange, FirstOutside}
 use Rattle.exact_data.proofs.FileLaws.{data-exactly}
-use Rattle.exact_data.proofs.StandLaws.{row-stands, rows-stand, bytes-stand}
+use Rattle.exact_data.proofs.StandLaws.{fitting-exactly, row-stands, rows-stand, bytes-stand}
 use Rattle.exact_data.proofs.PlainLaws as plain
 use Rattle.exact_data.proofs.ChangeLaws.{none-first, one-first, new-file, new-said, back-said, restored, told}
 
 -- a row that was written can be written
 writes : (l : Layout) (n : ℕ) (r : Row) (room : ℕ) (b : List ℕ) → r .time ≤ 4294967295 → writeSaid l n r room ≡ says b → Writes l r
 writes l n r room b h e = record { time = omega arith; all = writable l n r room b e .all }
+
+-- DEMAND 2. A row, the n-th of a sized layout, whose timestamp has 32 bits, is written where there is room exactly when each of its samples is in the kind's range
+pub written-exactly : (l : Layout) (n : ℕ) (r : Row) → Sized l → 1 ≤ n → n ≤ l .rows → r .time ≤ 4294967295
+    → Fitting l r ↔ ((b : List ℕ) × ((room : ℕ) → length b ≤ room → writeSaid l n r room ≡ says b))
+unfolding writeSaid hasRow
+written-exactly l n r size h k early = (
+  λ f. (
+    bytesOf l n r,
+    λ room w.
+        rw (
+          sized-is l size,
+          le-leb 1 n h,
+          le-leb n (l .rows) k,
+          eq-eqb (misfitOf l r) (l .analogs) (fitting-exactly l r .0 f .all),
+          le-leb (length (bytesOf l n r)) room w,
+        ),
+  ),
+  λ t. fitting-exactly l r .1 (writes l n r (length (t .0)) (t .0) early (t .1 (length (t .0)) (omega arith))),
+)
 
 -- DEMAND 2. A row that was written, standing in a data file as row n, is shown as it was written: its places past A and D zero
 pub written-stands : (l : Layout) (n : ℕ) (r : Row) (room : ℕ) (b s : List ℕ) (q : ℕ → Row) → every isByte s ≡ true

@@ -1,3 +1,2 @@
-pub mod Demands
 pub mod Data
 pub mod Vectors

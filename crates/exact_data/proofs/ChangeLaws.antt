@@ -1,5 +1,4 @@
 -- A change of kind, exactly.
---     row-fits                 no sample of a row is a misfit exactly when each is in range
 --     outcome                  every sample is in range and all rows fit, or there is a first outside and the refusal is its place
 --     one-first, none-first    there is one first sample outside, and none where all are in range
 --     file-ext                 the same rows are written as the same file
@@ -9,7 +8,7 @@
 --     told                     in all: the new file, 17 where there is no room for it, or 16 at the first sample outside
 -- Assumes nothing.
 use mathlib.Core.Path.{_≡_, refl, sym, ap, subst, _∙_}
-use mathlib.Core.Logic.{_↔_, _⊎_, inl, inr, ⊎-elim}
+use mathlib.Core.Logic.{_⊎_, inl, inr, ⊎-elim}
 use mathlib.Core.Bool.{true}
 use mathlib.Core.List.{List, [], _++_}
 use Prim.Native.Nat.{ℕ, zero, suc, _+_, _≤_, _<_}
@@ -30,7 +29,7 @@ use Rattle.model.specs.declared.Row.{Row}
 use Rattle.model.specs.Layouts.{isSized, Sized, inKind}
 use Rattle.model.specs.Refusals.{refused}
 use Rattle.model.specs.Rows.{trimmed}
-use Rattle.model.proofs.FitLaws.{misfit-all, all-misfit, misfit-le, misfit-first}
+use Rattle.model.proofs.FitLaws.{misfit-le, misfit-first}
 use Rattle.model.proofs.LayoutLaws.{sized-is, sized-in}
 use Rattle.texts.specs.Files.{mark}
 use Rattle.data.specs.Files.{byKind, fileFine, rowAt, bytesOf, misfitOf, endMark, fileOf}
@@ -41,15 +40,8 @@ use Rattle.paper.specs.Data.{InRange, sampleOf, TextFile, DataFile}
 use Rattle.paper.specs.Written.{EndingOf, PlainText, Restored, AllInRange, FirstOutside}
 use Rattle.exact_data.proofs.NumberLaws.{range-exactly}
 use Rattle.exact_data.proofs.FileLaws.{as-text, RowsAre, fine-exactly, same-file}
-use Rattle.exact_data.proofs.StandLaws.{rows-stand}
+use Rattle.exact_data.proofs.StandLaws.{row-fits, rows-stand}
 use Rattle.exact_data.proofs.PlainLaws.{plain-there}
-
-pub row-fits : (l : Layout) (r : Row) → misfitOf l r ≡ l .analogs ↔ ((j : ℕ) → j < l .analogs → InRange (l .kind) (sampleOf r j))
-unfolding misfitOf
-row-fits l r = (
-  λ e j h. range-exactly (l .kind) (sampleOf r j) .0 (misfit-all (l .kind) (r .samples) (l .analogs) e j h),
-  λ f. all-misfit (l .kind) (r .samples) (l .analogs) (λ j h. range-exactly (l .kind) (sampleOf r j) .1 (f j h)),
-)
 
 -- the search through a row
 module _ (l : Layout) (r : Row) where

@@ -1,5 +1,6 @@
 -- Rows that were written, standing in a data file.
---     fitting-exactly            a row fits exactly when it can be written
+--     row-fits                   no sample of a row is a misfit exactly when each is in range
+--     fitting-exactly            so a row fits exactly when it can be written
 --     lines-apart                a text that begins with a line begins with no other
 --     same-lines                 so lines in a row are found again
 --     row-stands                 where the bytes of a row that can be written stand in a data file as row n, row n of the file is that row, its places past A and D zero
@@ -41,24 +42,24 @@ use Rattle.data.specs.Files.{bytesOf, misfitOf}
 use Rattle.data.proofs.FileLaws.{by-kind, Writes, fits-text, bytes-text, bytes-binary}
 use Rattle.paper.specs.Lines.{ended}
 use Rattle.paper.specs.Data as page
-use Rattle.paper.specs.Data.{sampleOf, TextEnding, TextFile, BinaryFile, DataFile}
+use Rattle.paper.specs.Data.{InRange, sampleOf, TextEnding, TextFile, BinaryFile, DataFile}
 use Rattle.paper.specs.Written.{Fitting, RowsOf, Stands, EndingOf}
 use Rattle.exact_data.proofs.NumberLaws.{range-exactly}
 use Rattle.exact_data.proofs.BinaryLaws.{row-exactly, binary-exactly}
 use Rattle.exact_data.proofs.TextLaws.{line-exactly, rows-front}
 use Rattle.exact_data.proofs.FileLaws.{as-text, as-binary}
 
-pub fitting-exactly : (l : Layout) (r : Row) → Fitting l r ↔ Writes l r
+pub row-fits : (l : Layout) (r : Row) → misfitOf l r ≡ l .analogs ↔ ((j : ℕ) → j < l .analogs → InRange (l .kind) (sampleOf r j))
 unfolding misfitOf
+row-fits l r = (
+  λ e j h. range-exactly (l .kind) (sampleOf r j) .0 (misfit-all (l .kind) (r .samples) (l .analogs) e j h),
+  λ f. all-misfit (l .kind) (r .samples) (l .analogs) (λ j h. range-exactly (l .kind) (sampleOf r j) .1 (f j h)),
+)
+
+pub fitting-exactly : (l : Layout) (r : Row) → Fitting l r ↔ Writes l r
 fitting-exactly l r = (
-  λ f. record {
-    time = omega (arith, f .early);
-    all = all-misfit (l .kind) (r .samples) (l .analogs) (λ i h. range-exactly (l .kind) (sampleOf r i) .1 (f .samples i h));
-  },
-  λ w. record {
-    early = omega (arith, w .time);
-    samples = λ i h. range-exactly (l .kind) (sampleOf r i) .0 (misfit-all (l .kind) (r .samples) (l .analogs) (w .all) i h);
-  },
+  λ f. record { time = omega (arith, f .early); all = row-fits l r .1 (f .samples) },
+  λ w. record { early = omega (arith, w .time); samples = row-fits l r .0 (w .all) },
 )
 
 -- no byte of a line is CR

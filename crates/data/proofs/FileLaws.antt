@@ -4,16 +4,14 @@
 --     length-bytes                   a row takes as many bytes as it is told to
 --     Writes, fits-text              a row that can be written: its time and its samples fit, for text the bounds of text
 --     fine-back, row-back            a file of written rows is fine, and has each row as it was written, with its places past A and D zero
---     accepted, reads-back           the same of the calls
 --     row-writes, row-trimmed        a row of an accepted file can be written, and has its places past A and D zero
---     file-back, file-plain          an accepted file is the file of its rows; a text is so in its plain form
+--     file-back                      an accepted file of a binary kind is the file of its rows
 -- Assumes nothing.
 use mathlib.Core.Path.{_≡_, refl, sym, ap, _∙_}
 use mathlib.Core.Bool.{true}
-use mathlib.Core.List.{List, [], _++_, append-nil}
-use Prim.Native.Nat.{ℕ, _+_, _-_, _*_, _^_, _<_}
+use mathlib.Core.List.{List, [], append-nil}
+use Prim.Native.Nat.{ℕ, _+_, _*_, _^_, _<_}
 use native.Mathlib.Omega.{arith}
-use borrow.Author.Tests.{le-leb}
 use lib.IntN.{pos}
 use lib.ListN.{length, getD}
 use Rattle.lists.specs.Said.{says}
@@ -25,7 +23,6 @@ use Rattle.model.specs.declared.Kind.{Kind}
 use Rattle.model.specs.declared.Kind.the-variants.{Ascii, Binary, Binary32}
 use Rattle.model.specs.declared.Layout.{Layout}
 use Rattle.model.specs.declared.Row.{Row}
-use Rattle.model.specs.declared.Answer.the-variants.{Yes}
 use Rattle.model.specs.Kinds.{fitsKind, numberOf}
 use Rattle.model.specs.Layouts.{isSized}
 use Rattle.model.specs.Rows.{trimmed}
@@ -37,10 +34,10 @@ use Rattle.binaries.specs.Files.{rowBytes, checkBinary, binaryRow, binaryFile}
 use Rattle.binaries.proofs.FileLaws.{binary-accepted, binary-reads-back, binary-back}
 use Rattle.plain.specs.Rows.{textOf, textLength}
 use Rattle.plain.proofs.LengthLaws.{length-text}
-use Rattle.texts.specs.Files.{checkText, textRow, mark, textFile, plainText}
+use Rattle.texts.specs.Files.{checkText, textRow, mark, textFile}
 use Rattle.texts.proofs.RoundLaws.{Fits}
 use Rattle.texts.proofs.FileLaws as texts
-use Rattle.data.specs.Files.{fileFine, rowAt, bytesOf, hasRow, misfitOf, checkFile, rowAnswer, showRow, endMark, fileOf}
+use Rattle.data.specs.Files.{fileFine, rowAt, bytesOf, misfitOf, endMark, fileOf}
 use Rattle.data.specs.Inner.{lengthOf}
 use Rattle.data.proofs.Laws.{text-kind, binary-kind}
 
@@ -114,16 +111,6 @@ module _ (l : Layout) (ok : isSized l ≡ true) (r : ℕ → Row) (writes : (i :
       rw (binary-kind (l .kind) (textRow l i (fileOf l r)) (binaryRow l i (fileOf l r)) e, file-binary l e r)
       (binary-reads-back l r i h (writes i h .all) (writes i h .time)))
 
-  pub accepted : checkFile l (fileOf l r) ≡ Yes
-  unfolding checkFile
-  accepted = rw (ok, fine-back)
-
-  pub reads-back : (i : ℕ) → i < l .rows → showRow l (fileOf l r) (i + 1) ≡ rowAnswer (says (trimmed l (r i)))
-  unfolding showRow hasRow
-  reads-back i h =
-      let e : i + 1 - 1 ≡ i = omega arith in
-      rw (ok, le-leb 1 (i + 1) (omega arith), le-leb (i + 1) (l .rows) (omega arith), fine-back, e, row-back i h)
-
 -- any file
 module _ (l : Layout) (s : List ℕ) (bytes : every isByte s ≡ true) where
   pub row-writes : (i : ℕ) → Writes l (rowAt l s i)
@@ -152,11 +139,3 @@ module _ (l : Layout) (s : List ℕ) (bytes : every isByte s ≡ true) where
       ∙ cat-ext (λ i. binary.bytesOf l (i + 1) (rowAt l s i)) (λ i. binary.bytesOf l (i + 1) (binaryRow l i s)) (l .rows)
       (λ i h. rw (binary-kind (l .kind) (textRow l i s) (binaryRow l i s) e))
       ∙ binary-back l s f bytes
-
-  pub file-plain : l .kind ≡ Ascii → fileOf l (rowAt l s) ≡ plainText l s
-  unfolding rowAt
-  file-plain e =
-      file-text l e (rowAt l s)
-      ∙ ap (λ (t : List ℕ). t ++ mark)
-      (cat-ext (λ i. textOf l (i + 1) (rowAt l s i)) (λ i. textOf l (i + 1) (textRow l i s)) (l .rows)
-      (λ i h. rw (text-kind (l .kind) (textRow l i s) (binaryRow l i s) e)))

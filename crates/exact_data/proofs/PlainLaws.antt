@@ -1,6 +1,6 @@
 -- Plain texts, exactly.
 --     count-plain, whole-plain     plain counts and plain whole numbers, by their characters
---     plain-told, plain-is         a plain line passes the test, and a line that is written is plain
+--     plain-is                     a line that is written is plain
 --     plain-only                   a plain text with given rows is what is written of them
 --     plain-there                  and what is written is one
 -- Assumes nothing.
@@ -8,7 +8,7 @@ use mathlib.Core.Path.{_≡_, refl, sym, ap, subst, _∙_}
 use mathlib.Core.Logic.{_↔_, inl, inr}
 use mathlib.Core.Bool.{true, false, not, _||_}
 use mathlib.Core.List.{List, [], _∷_, _++_}
-use Prim.Native.Nat.{ℕ, zero, suc, _+_, _≤_, _<_}
+use Prim.Native.Nat.{ℕ, zero, suc, _+_, _≤_}
 use native.Mathlib.Omega.{arith}
 use borrow.Author.Tests.{eq-eqb, ne-eqb, eqb-true, eqb-false, leb-true}
 use lib.Dec.{eqb, leb}
@@ -29,11 +29,11 @@ use Rattle.ascii.specs.Rows.{fieldsOf}
 use Rattle.ascii.proofs.LineLaws.{line-told}
 use Rattle.plain.specs.Rows.{lineOf, textOf}
 use Rattle.plain.proofs.LineLaws.{line-bytes-plain, fields-line, number-field, time-field, sample-field}
-use Rattle.texts.specs.Files.{mark, textFile, plainSamples, plainLine}
+use Rattle.texts.specs.Files.{mark, textFile}
 use Rattle.texts.proofs.PlainLaws.{line-again}
 use Rattle.paper.specs.Fields.{isBetween}
 use Rattle.paper.specs.Lines.{ended}
-use Rattle.paper.specs.Data.{sampleOf, TextFile}
+use Rattle.paper.specs.Data.{sampleOf, TextLine, TextFile}
 use Rattle.paper.specs.Written.{PlainCount, PlainWhole, PlainLine, PlainText}
 use Rattle.exact.proofs.CountLaws.{digits-to, digits-from}
 use Rattle.exact.proofs.CommaLaws.{fields-exactly, fields-of}
@@ -96,22 +96,16 @@ whole-from f (inr (d, e, p, h)) = rw e (and-join (isPlainCount d) (not (eqb (get
 pub whole-plain : (f : List ℕ) → isPlain f ≡ true ↔ PlainWhole f
 whole-plain f = (whole-to f, whole-from f)
 
-samples-are : (line : List ℕ) (a : ℕ) → ((i : ℕ) → i < a → isPlain (fieldAt (3 + i) line) ≡ true) → plainSamples line a ≡ true
-unfolding plainSamples
-samples-are line zero h = refl
-samples-are line (suc a) h = rw (samples-are line a (λ i k. h i (omega arith)), h a (omega arith))
-
-pub plain-told : (l : Layout) (line : List ℕ) → PlainLine l line → plainLine l line ≡ true
-unfolding plainLine
-plain-told l line p =
+-- a line that is fine, and plain, is what is written of its row
+line-is : (l : Layout) (n : ℕ) (r : Row) (line : List ℕ) → TextLine l n r line → PlainLine l line → lineOf l n r ≡ line
+line-is l n r line t p =
     let f = fields-exactly (fieldsOf l) (p .f) line (omega arith) .0 (p .fields) .1 in
-    rw (
-      f 1 (omega arith) (omega arith),
-      count-from (p .f 1) (p .number),
-      f 2 (omega arith) (omega arith),
-      count-from (p .f 2) (p .time),
-    )
-    (samples-are line (l .analogs) (λ i h. rw (f (3 + i) (omega arith) (omega arith)) (whole-from (p .f (3 + i)) (p .samples i h))))
+    let x = line-exactly l n line r .1 t in
+    ap (lineOf l n) (sym (x .1))
+    ∙ line-again l n line (line-told l n line (x .0))
+    (rw (f 1 (omega arith) (omega arith)) (count-from (p .f 1) (p .number)))
+    (rw (f 2 (omega arith) (omega arith)) (count-from (p .f 2) (p .time)))
+    (λ i h. rw (f (3 + i) (omega arith) (omega arith)) (whole-from (p .f (3 + i)) (p .samples i h)))
 
 pub plain-is : (l : Layout) (n : ℕ) (r : Row) → PlainLine l (lineOf l n r)
 plain-is l n r =
@@ -139,9 +133,4 @@ plain-only l r s t p =
     p .whole
     ∙ ap (λ (y : List ℕ). y ++ mark)
     (cat-ext (λ i. ended (p .line i)) (λ i. textOf l (i + 1) (r i)) (l .rows)
-    (λ i h.
-    let line = t .line i in
-    let f = line-exactly l (i + 1) line (r i) .1 (t .each i h .is) in
-    let q = plain-told l line (subst (PlainLine l) (x i h) (p .each i h .is)) in
-    let again : lineOf l (i + 1) (r i) ≡ line = ap (lineOf l (i + 1)) (sym (f .1)) ∙ line-again l (i + 1) line (line-told l (i + 1) line (f .0)) q in
-    ap ended (x i h ∙ sym again)))
+    (λ i h. ap ended (x i h ∙ sym (line-is l (i + 1) (r i) (t .line i) (t .each i h .is) (subst (PlainLine l) (x i h) (p .each i h .is))))))

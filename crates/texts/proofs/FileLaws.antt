@@ -3,10 +3,8 @@
 --     rows-front                         rows that are written from row n on, the first and the others
 --     text-accepted, text-reads-back     a plain file is accepted, and shows each row as it was written, with its places past A and D zero
 --     row-fits, text-trimmed             a row of a text, accepted or not, can be written, and has its places past A and D zero
---     plain-accepted, plain-row          the plain file of a text is accepted, and has the text's rows
---     plain-again                        and so it is the plain file of itself
 -- Assumes nothing.
-use mathlib.Core.Path.{_≡_, refl, sym, ap, _∙_}
+use mathlib.Core.Path.{_≡_, refl, sym, ap}
 use mathlib.Core.List.{List, _++_, append-assoc}
 use Prim.Native.Nat.{ℕ, zero, suc, _+_, _^_, _<_, _≤_}
 use native.Mathlib.Nat.{zero-add}
@@ -27,7 +25,7 @@ use Rattle.ascii.proofs.FieldLaws.{time-below, sample-fits}
 use Rattle.ascii.proofs.LineLaws.{sample-there, row-trimmed}
 use Rattle.plain.specs.Rows.{textOf, textLength}
 use Rattle.plain.proofs.LengthLaws.{length-text}
-use Rattle.texts.specs.Files.{scanRow, isEnding, checkRows, checkText, lineTaken, firstLine, afterRows, textRow, mark, textFile, plainText}
+use Rattle.texts.specs.Files.{scanRow, isEnding, checkRows, checkText, lineTaken, firstLine, afterRows, textRow, mark, textFile}
 use Rattle.texts.proofs.RoundLaws.{Fits, line-back, row-checked, row-line, row-rest}
 
 pub row-next : (l : Layout) (i : ℕ) (s : List ℕ) → textRow l (i + 1) s ≡ textRow l i (drop (lineTaken (scanRow s)) s)
@@ -88,15 +86,3 @@ row-fits l i s =
 pub text-trimmed : (l : Layout) (i : ℕ) (s : List ℕ) → trimmed l (textRow l i s) ≡ textRow l i s
 unfolding textRow
 text-trimmed l i s = row-trimmed l (firstLine (afterRows i s))
-
--- the plain file of a text
-module _ (l : Layout) (sized : Sized l) (s : List ℕ) where
-  pub plain-accepted : checkText l (plainText l s) ≡ says tt
-  plain-accepted = text-accepted l sized (λ i. textRow l i s) (λ i h. row-fits l i s)
-
-  pub plain-row : (i : ℕ) → i < l .rows → textRow l i (plainText l s) ≡ textRow l i s
-  plain-row i h = text-reads-back l sized (λ i. textRow l i s) (λ i h. row-fits l i s) i h ∙ text-trimmed l i s
-
-  pub plain-again : plainText l (plainText l s) ≡ plainText l s
-  plain-again =
-      rw (cat-ext (λ i. textOf l (i + 1) (textRow l i (plainText l s))) (λ i. textOf l (i + 1) (textRow l i s)) (l .rows) (λ i h. rw (plain-row i h)))

@@ -1,17 +1,14 @@
 -- Files of text: rows, each a line with CR LF, and what may follow the last.
-use mathlib.Core.Path.{_≡_}
 use mathlib.Core.Bool.{Bool, true, false, _&&_}
 use mathlib.Core.List.{List, [], _∷_, _++_}
 use Prim.Native.Nat.{ℕ, zero, suc, _+_}
 use lib.Dec.{eqb}
-use lib.ListN.{length, take, drop}
+use lib.ListN.{take, drop}
 use Rattle.lists.specs.Said.{Said, says, refuses, _>>=_, _>>_, must}
 use Rattle.lists.specs.Tables.{cat}
 use Rattle.text.specs.declared.Scanned.{Scanned}
 use Rattle.text.specs.declared.Scanned.the-variants.{Line, Ends, Bad}
 use Rattle.text.specs.Lines.{scanLine}
-use Rattle.text.specs.Fields.{fieldAt}
-use Rattle.numerals.specs.Decimals.{isPlainCount, isPlain}
 use Rattle.model.specs.declared.Layout.{Layout}
 use Rattle.model.specs.declared.Row.{Row}
 use Rattle.model.specs.declared.Refusal.{Refusal}
@@ -98,25 +95,3 @@ mark = 26 ∷ 13 ∷ 10 ∷ []
 -- the plain file whose rows are r 0, r 1, ..
 abbrev pub textFile : Layout → (ℕ → Row) → List ℕ
 textFile l r = cat (λ i. textOf l (i + 1) (r i)) (l .rows) ++ mark
-
--- the plain file with the rows that a text has
-abbrev pub plainText : Layout → List ℕ → List ℕ
-plainText l s = textFile l (λ i. textRow l i s)
-
--- the first a samples of a line are plain
-unfoldable pub plainSamples : List ℕ → ℕ → Bool
-plainSamples line zero = true
-plainSamples line (suc a) = plainSamples line a && isPlain (fieldAt (3 + a) line)
-
--- a plain line: no spaces, no plus, no needless zeros, zero as 0
-unfoldable pub plainLine : Layout → List ℕ → Bool
-plainLine l line = isPlainCount (fieldAt 1 line) && isPlainCount (fieldAt 2 line) && plainSamples line (l .analogs)
-
--- m plain rows, with which s begins, and then the end mark
-unfoldable pub plainRows : Layout → List ℕ → ℕ → Bool
-plainRows l s zero = eqb (length s) 3 && isEnding s
-plainRows l s (suc m) = plainLine l (firstLine s) && plainRows l (drop (lineTaken (scanRow s)) s) m
-
--- a plain file, by its characters
-abbrev pub Plain : Layout → List ℕ → Type 0
-Plain l s = plainRows l s (l .rows) ≡ true

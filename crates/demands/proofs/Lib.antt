@@ -1,2 +1,5 @@
 pub mod Data
+pub mod Demands
+pub mod Placed
+pub mod Calls
 pub mod Vectors

@@ -2,4 +2,5 @@ pub mod Data
 pub mod Demands
 pub mod Placed
 pub mod Calls
+pub mod Recordings
 pub mod Vectors

@@ -1,6 +1,6 @@
 pub mod Data
-pub mod Demands
 pub mod Placed
 pub mod Calls
 pub mod Recordings
 pub mod Vectors
+pub mod Wrong

@@ -1,2 +1,2 @@
-// The demands on the loader and its test vectors, as theorems on the definitions of the calls.
-// No running code: proofs/Data.antt has the demands on written rows and on the change, proofs/Vectors.antt the vectors T1 to T12 as one list.
+// The demands on the loader as theorems on what its calls answer and leave in their buffers; docs/DEMANDS.md lists them.
+// No running code: proofs/Configurations.antt, Data.antt and Calls.antt have the demands, Placed.antt the places of refusals, Wrong.antt the wrong programs, Vectors.antt T1 to T12 as one list.

@@ -1,0 +1,298 @@
+-- WRONG PROGRAMS, each told by what it does. A call with our contract does not do it: from a promise that it does so on every input a contradiction follows, on a small file.
+--     refuses-every-file, refuses-every-configuration, accepts-every-file, accepts-every-configuration
+--     shows-zero-rows, shows-row-1-always
+--     rows-from-the-length, a-row-more-accepted, a-row-less-accepted     the rows are counted in the file and not taken from the layout
+--     writes-nothing, changes-nothing
+--     copies-unchanged                the change of kind copies the file
+--     row-1-and-the-rest-invented     what the change writes is told by row 1 alone
+--     invented-length                 the length that is told does not depend on the file
+--     writes-beside-a-no              a change writes rows until it meets one that does not fit
+--     writes-past-what-it-reports, clears-the-tail
+--     end-mark-with-a-row             the last row of a text is written with the end mark
+--     seventeen-before-sixteen        no room is told before a sample that does not fit
+--     later-row-first                 the last row that does not fit is told, and not the first
+--     length-says-17                  the length question refuses with 17 where the change does
+--     minus-lost                      the code -0h30 is read as +30 minutes
+--     first-and-trigger-exchanged
+-- Assumes nothing.
+use mathlib.Core.Path.{_≡_, refl, sym, ap, _∙_}
+use mathlib.Core.Bool.{true, false}
+use mathlib.Core.List.{List, [], _∷_, _++_}
+use Prim.Native.Nat.{ℕ, suc, _+_, _-_, _/_, _<_, _≤_}
+use native.Mathlib.Omega.{arith}
+use borrow.Author.Tests.{eqb-false, le-leb}
+use lib.Dec.{lit≤, eqb, leb}
+use lib.IntN.{pos, negℤ}
+use lib.ListN.{length, getD, take, drop, replicate}
+use Rattle.lists.specs.Quoted.{quoted}
+use Rattle.lists.specs.Said.{Said, says, refuses, _>>_, must, over}
+use Rattle.lists.proofs.Cases.{clash}
+use Rattle.lists.proofs.SaidLaws.{must-told, bind-told}
+use Rattle.words.specs.Words.{wordOf, wordBytes}
+use Rattle.words.specs.Signed.{signedOf, unsignedOf}
+use Rattle.text.specs.Lines.{scanLine}
+use Rattle.text.specs.Fields.{fieldCount, afterFields, fieldAt}
+use Rattle.numerals.specs.Counts.{lengthIn, isDigit, numberOf, readCount}
+use Rattle.numerals.specs.Wholes.{signLength, hasMinus, withSign, signedNumber, readWhole}
+use Rattle.numerals.specs.Decimals.{decimalIn, decimal, plain}
+use Rattle.model.specs.declared.Kind.{Kind}
+use Rattle.model.specs.declared.Kind.the-variants.{Ascii, Binary}
+use Rattle.model.specs.declared.Layout.{Layout}
+use Rattle.model.specs.declared.Row.{Row}
+use Rattle.model.specs.declared.Refusal.{Refusal}
+use Rattle.model.specs.declared.Answer.{Answer}
+use Rattle.model.specs.declared.Answer.the-variants.{Yes, No}
+use Rattle.model.specs.Kinds.{fitsKind}
+use Rattle.model.specs.Layouts.{isSized, inKind}
+use Rattle.model.specs.Refusals.{refused}
+use Rattle.model.specs.Rows.{zeroRow, misfit}
+use Rattle.config.specs.Config.{readConfig}
+use Rattle.binary.specs.Rows as binary
+use Rattle.binary.specs.Rows.{rowSize, rowCheck, packed}
+use Rattle.binaries.specs.Files as binaries
+use Rattle.binaries.specs.Files.{rowRefusal, checkBinary, binaryRow}
+use Rattle.ascii.specs.Fields.{readTime, readSample, isStatus, timeIn, sampleIn, statusIn}
+use Rattle.ascii.specs.Rows as ascii
+use Rattle.ascii.specs.Rows.{fieldFine, checkFields, checkNumber, checkLine}
+use Rattle.plain.specs.Rows.{lineOf, textOf}
+use Rattle.texts.specs.Files as texts
+use Rattle.texts.specs.Files.{checkRow, isEnding, checkText, firstLine, afterRows, textRow, mark}
+use Rattle.data.specs.Files.{fileFine, rowAt, bytesOf, hasRow, misfitOf, checkFile, showRow, writeSaid, endMark, fileOf}
+use Rattle.change.specs.Change.{fitRow, fitRows, bytesNeeded, changed, changeSaid}
+use Rattle.change.proofs.WriteLaws.{needed-length, change-needs}
+use Rattle.demands.proofs.Calls.{never-17}
+use Rattle.demands.proofs.Recordings.{recording, recordings}
+use Rattle.demands.proofs.Vectors.{layout, row, of-t1, t1, t2, vectors}
+
+-- T1's rows
+abbrev row-1 : Row
+row-1 = row 0 (negℤ (pos 3) ∷ []) (false ∷ [])
+
+abbrev row-2 : Row
+row-2 = row 1000 (pos 300 ∷ []) (true ∷ [])
+
+-- T1 with another sample in row 2, and what it is in binary
+abbrev other : List ℕ
+other = quoted "1,0,-3,0\r\n2,1000,301,1\r\n"
+
+abbrev other-changed : List ℕ
+other-changed = take 20 t2 ++ 0x2D ∷ drop 21 t2
+
+-- two rows of zeros in binary, and as text
+abbrev zeros : List ℕ
+zeros = 0x01 ∷ replicate 11 0 ++ 0x02 ∷ replicate 11 0
+
+abbrev zeros-text : List ℕ
+zeros-text = quoted "1,0,0,0\r\n2,0,0,0\r\n\u{1a}\r\n"
+
+-- two rows of one sample, of which the second, or both, do not fit binary
+abbrev second-unfit : List ℕ
+second-unfit = quoted "1,0,1\r\n2,0,32768\r\n"
+
+abbrev both-unfit : List ℕ
+both-unfit = quoted "1,0,32768\r\n2,0,32768\r\n"
+
+computed :
+    -- T1 has two rows, in either kind
+    ((checkFile (layout 1 1 1 Ascii) t1 ≡ No (refused 11 2 0))
+    × (checkFile (layout 1 1 3 Ascii) t1 ≡ No (refused 14 3 0))
+    × (checkFile (layout 1 1 1 Binary) t2 ≡ No (refused 11 0 0))
+    × (hasRow (of-t1 Ascii) 2 ≡ true))
+    -- one row is written
+    × ((writeSaid (of-t1 Binary) 1 row-1 12 ≡ says (take 12 t2))
+    × (writeSaid (of-t1 Binary) 1 row-1 13 ≡ says (take 12 t2))
+    × (writeSaid (of-t1 Ascii) 2 row-2 14 ≡ says (quoted "2,1000,300,1\r\n")))
+    -- files are changed
+    × ((checkFile (of-t1 Ascii) other ≡ Yes)
+    × (showRow (of-t1 Ascii) t1 1 ≡ showRow (of-t1 Ascii) other 1)
+    × (changeSaid (of-t1 Ascii) other Binary 24 ≡ says other-changed)
+    × (changeSaid (of-t1 Binary) t2 Ascii 27 ≡ says t1)
+    × (changeSaid (of-t1 Binary) zeros Ascii 27 ≡ says zeros-text))
+    -- samples do not fit
+    × ((checkFile (layout 1 0 2 Ascii) both-unfit ≡ Yes)
+    × (changeSaid (layout 1 0 2 Ascii) second-unfit Binary 20 ≡ refuses (refused 16 2 3))
+    × (bytesOf (layout 1 0 2 Binary) 1 (rowAt (layout 1 0 2 Ascii) second-unfit 0) ≡ 0x01 ∷ replicate 7 0 ++ 0x01 ∷ 0x00 ∷ [])
+    × (changeSaid (layout 1 0 2 Ascii) both-unfit Binary 0 ≡ refuses (refused 16 1 3))
+    × (length (changed (layout 1 0 2 Ascii) both-unfit Binary) ≡ 20)
+    × (fitRow (layout 1 0 2 Binary) 2 (rowAt (layout 1 0 2 Ascii) both-unfit 1) ≡ refuses (refused 16 2 3)))
+unfolding checkFile showRow writeSaid isSized hasRow fileFine rowAt checkText texts.checkRows checkRow isEnding scanLine firstLine afterRows textRow fieldCount afterFields fieldAt
+    checkLine checkNumber checkFields fieldFine ascii.rowOf readTime readSample isStatus timeIn sampleIn statusIn lengthIn isDigit numberOf readCount signLength hasMinus withSign signedNumber readWhole fitsKind
+    changeSaid fitRows misfitOf misfit rowSize changed fileOf endMark bytesOf binary.bytesOf packed wordBytes wordOf signedOf unsignedOf
+    checkBinary binaries.checkRows binaryRow binary.rowOf rowCheck rowRefusal decimalIn decimal plain lineOf textOf
+computed = (
+  (refl, refl, refl, refl),
+  (refl, refl, refl),
+  (refl, refl, refl, refl, refl),
+  (refl, refl, refl, refl, refl, refl),
+)
+
+-- no answer is yes and no
+yes-no : (a : Answer) (r : Refusal) → a ≡ Yes → a ≡ No r → ⊥
+yes-no a r e f = clash (cc)
+
+-- lists that differ at a place
+differ : (xs ys : List ℕ) (i : ℕ) → eqb (getD xs i 0) (getD ys i 0) ≡ false → xs ≡ ys → ⊥
+differ xs ys i d e = eqb-false (getD xs i 0) (getD ys i 0) d (ap (λ zs. getD zs i 0) e)
+
+-- the refusal that was given; zeros for none
+abbrev given : Said Refusal (List ℕ) → Refusal
+given (says new) = refused 0 0 0
+given (refuses r) = r
+
+-- a call gives one refusal
+one-refusal : (x : Said Refusal (List ℕ)) (p q : Refusal) → x ≡ refuses p → x ≡ refuses q → (p .number ≡ q .number) × (p .at ≡ q .at)
+one-refusal x p q e f = (sym (ap (λ y. given y .number) e) ∙ ap (λ y. given y .number) f, sym (ap (λ y. given y .at) e) ∙ ap (λ y. given y .at) f)
+
+-- what a buffer holds where this was said
+abbrev holds : List ℕ → List ℕ → List ℕ
+holds new out = new ++ drop (length new) out
+
+-- a buffer of so many zeros
+abbrev blank : ℕ → List ℕ
+blank n = replicate n 0
+
+pub refuses-every-file : ((l : Layout) (s : List ℕ) → (r : Refusal) × (checkFile l s ≡ No r)) → ⊥
+refuses-every-file f = let e = f (of-t1 Ascii) t1 in yes-no (checkFile (of-t1 Ascii) t1) (e .0) (vectors .0 .1) (e .1)
+
+pub refuses-every-configuration : ((s : List ℕ) → (r : Refusal) × (readConfig s .answer ≡ No r)) → ⊥
+refuses-every-configuration f =
+    let s = recording "03/02/2024,09:15:00.000000" "0,0" in
+    let e = f s in
+    yes-no (readConfig s .answer) (e .0) (ap (λ a. a .answer) (recordings .0)) (e .1)
+
+pub accepts-every-file : ((l : Layout) (s : List ℕ) → checkFile l s ≡ Yes) → ⊥
+accepts-every-file f = yes-no (checkFile (layout 1 1 1 Ascii) t1) (refused 11 2 0) (f (layout 1 1 1 Ascii) t1) (computed .0 .0)
+
+pub accepts-every-configuration : ((s : List ℕ) → readConfig s .answer ≡ Yes) → ⊥
+accepts-every-configuration f = yes-no (readConfig [] .answer) (refused 2 1 0) (f []) (ap (λ a. a .answer) (vectors .10))
+
+pub shows-zero-rows : ((l : Layout) (s : List ℕ) (n : ℕ) → showRow l s n .row ≡ zeroRow) → ⊥
+unfolding zeroRow
+shows-zero-rows f =
+    eqb-false 1000 0 refl (ap (λ a. a .row .time) (sym (vectors .0 .3)) ∙ ap (λ r. r .time) (f (of-t1 Ascii) t1 2))
+
+pub shows-row-1-always : ((l : Layout) (s : List ℕ) (n : ℕ) → checkFile l s ≡ Yes → hasRow l n ≡ true → showRow l s n ≡ showRow l s 1) → ⊥
+shows-row-1-always f =
+    let e = sym (vectors .0 .3) ∙ f (of-t1 Ascii) t1 2 (vectors .0 .1) (computed .0 .3) ∙ vectors .0 .2 in
+    eqb-false 1000 0 refl (ap (λ a. a .row .time) e)
+
+-- the rows are counted in the file: by its length where they are all of one length
+pub rows-from-the-length : ((a d rows : ℕ) (s : List ℕ) → checkFile (layout a d (length s / rowSize (layout a d rows Binary)) Binary) s ≡ checkFile (layout a d rows Binary) s) → ⊥
+unfolding rowSize
+rows-from-the-length f = yes-no (checkFile (layout 1 1 1 Binary) t2) (refused 11 0 0) (sym (f 1 1 1 t2) ∙ vectors .1 .3) (computed .0 .2)
+
+pub a-row-more-accepted : ((a d rows : ℕ) (k : Kind) (s : List ℕ) → checkFile (layout a d (rows + 1) k) s ≡ Yes → checkFile (layout a d rows k) s ≡ Yes) → ⊥
+a-row-more-accepted f = yes-no (checkFile (layout 1 1 1 Ascii) t1) (refused 11 2 0) (f 1 1 1 Ascii t1 (vectors .0 .1)) (computed .0 .0)
+
+pub a-row-less-accepted : ((a d rows : ℕ) (k : Kind) (s : List ℕ) → checkFile (layout a d rows k) s ≡ Yes → checkFile (layout a d (rows + 1) k) s ≡ Yes) → ⊥
+a-row-less-accepted f = yes-no (checkFile (layout 1 1 3 Ascii) t1) (refused 14 3 0) (f 1 1 2 Ascii t1 (vectors .0 .1)) (computed .0 .1)
+
+pub writes-nothing : ((l : Layout) (n : ℕ) (r : Row) (out : List ℕ) → over (writeSaid l n r (length out)) out ≡ out) → ⊥
+writes-nothing f =
+    let out = blank 12 in
+    let e : holds (take 12 t2) out ≡ out = rw (computed .1 .0) at (f (of-t1 Binary) 1 row-1 out) in
+    differ (holds (take 12 t2) out) out 0 refl e
+
+pub changes-nothing : ((l : Layout) (s : List ℕ) (k : Kind) (out : List ℕ) → over (changeSaid l s k (length out)) out ≡ out) → ⊥
+changes-nothing f =
+    let out = blank 24 in
+    let e : t2 ≡ out = sym (vectors .1 .2 out refl) ∙ f (of-t1 Ascii) t1 Binary out in
+    differ t2 out 0 refl e
+
+-- more room does no harm
+more-room : (l : Layout) (s : List ℕ) (k : Kind) (m room : ℕ) (new : List ℕ) → changeSaid l s k m ≡ says new → length new ≤ room → changeSaid l s k room ≡ says new
+more-room l s k m room new e h =
+    let b = bind-told (bytesNeeded l s k) (λ j. must (leb j m) (refused 17 0 0) >> says (changed l s k)) new (sym (change-needs l s k m) ∙ e) in
+    let c = must-told (leb (b .0) m) (refused 17 0 0) (says (changed l s k)) new (b .2) in
+    let q : changed l s k ≡ new = cc (c .1) in
+    let w : b .0 ≤ room = rw (needed-length l s k (b .0) (b .1), q) h in
+    change-needs l s k room ∙ rw (b .1, le-leb (b .0) room w, q)
+
+pub copies-unchanged : ((l : Layout) (s : List ℕ) (k : Kind) (out : List ℕ) → checkFile l s ≡ Yes → length s ≤ length out
+    → over (changeSaid l s k (length out)) out ≡ s ++ drop (length s) out)
+    → ⊥
+copies-unchanged f =
+    let out = blank 27 in
+    let e : holds t2 out ≡ t1 ++ drop 27 out = rw (more-room (of-t1 Ascii) t1 Binary 24 27 t2 (vectors .1 .1) (lit≤ tt)) at (f (of-t1 Ascii) t1 Binary out (vectors .0 .1) (lit≤ tt)) in
+    differ (holds t2 out) (t1 ++ drop 27 out) 0 refl e
+
+pub row-1-and-the-rest-invented : ((l : Layout) (s t : List ℕ) (k : Kind) (room : ℕ) → checkFile l s ≡ Yes → checkFile l t ≡ Yes → showRow l s 1 ≡ showRow l t 1
+    → changeSaid l s k room ≡ changeSaid l t k room)
+    → ⊥
+row-1-and-the-rest-invented f =
+    let e : says t2 ≡ says other-changed = sym (vectors .1 .1) ∙ f (of-t1 Ascii) t1 other Binary 24 (vectors .0 .1) (computed .2 .0) (computed .2 .1) ∙ computed .2 .2 in
+    let q : t2 ≡ other-changed = cc e in
+    differ t2 other-changed 20 refl q
+
+pub invented-length : (told : Layout → Kind → ℕ → ℕ) → ((l : Layout) (s : List ℕ) (k : Kind) (room : ℕ) (new : List ℕ) → changeSaid l s k room ≡ says new → told l k room ≡ length new) → ⊥
+invented-length told f =
+    eqb-false 27 21 refl (sym (f (of-t1 Binary) t2 Ascii 27 t1 (computed .2 .3)) ∙ f (of-t1 Binary) zeros Ascii 27 zeros-text (computed .2 .4))
+
+-- the first row is written before the others are looked at
+pub writes-beside-a-no : ((l : Layout) (s : List ℕ) (k : Kind) (out : List ℕ) → length (bytesOf (inKind k l) 1 (rowAt l s 0)) ≤ length out
+    → take (length (bytesOf (inKind k l) 1 (rowAt l s 0))) (over (changeSaid l s k (length out)) out) ≡ bytesOf (inKind k l) 1 (rowAt l s 0))
+    → ⊥
+writes-beside-a-no f =
+    let l = layout 1 0 2 Ascii in
+    let out = blank 20 in
+    let b : List ℕ = 0x01 ∷ replicate 7 0 ++ 0x01 ∷ 0x00 ∷ [] in
+    let e : take 10 out ≡ b = rw (computed .3 .2, computed .3 .1) at (f l second-unfit Binary out) (lit≤ tt) in
+    differ (take 10 out) b 0 refl e
+
+pub writes-past-what-it-reports : (z : ℕ) → ((l : Layout) (n : ℕ) (r : Row) (out new : List ℕ) → writeSaid l n r (length out) ≡ says new → length new < length out
+    → getD (over (writeSaid l n r (length out)) out) (length new) 0 ≡ z)
+    → ⊥
+writes-past-what-it-reports z f =
+    let out : List ℕ = replicate 13 (suc z) in
+    let e : suc z ≡ z = rw (computed .1 .1) at (f (of-t1 Binary) 1 row-1 out (take 12 t2) (computed .1 .1) (lit≤ tt)) in
+    absurd (omega arith)
+
+pub clears-the-tail : ((l : Layout) (n : ℕ) (r : Row) (out new : List ℕ) → writeSaid l n r (length out) ≡ says new
+    → over (writeSaid l n r (length out)) out ≡ new ++ replicate (length out - length new) 0)
+    → ⊥
+clears-the-tail f =
+    let out : List ℕ = replicate 13 1 in
+    let new = take 12 t2 in
+    let e : holds new out ≡ new ++ 0 ∷ [] = rw (computed .1 .1) at (f (of-t1 Binary) 1 row-1 out new (computed .1 .1)) in
+    differ (holds new out) (new ++ 0 ∷ []) 12 refl e
+
+pub end-mark-with-a-row : ((l : Layout) (n : ℕ) (r : Row) (room : ℕ) (new : List ℕ) → l .kind ≡ Ascii → n ≡ l .rows → writeSaid l n r room ≡ says new
+    → drop (length new - 3) new ≡ mark)
+    → ⊥
+end-mark-with-a-row f =
+    let new = quoted "2,1000,300,1\r\n" in
+    let e : drop 11 new ≡ mark = f (of-t1 Ascii) 2 row-2 14 new refl refl (computed .1 .2) in
+    differ (drop 11 new) mark 0 refl e
+
+pub seventeen-before-sixteen : ((l : Layout) (s : List ℕ) (k : Kind) (room : ℕ) → checkFile l s ≡ Yes → room < length (changed l s k)
+    → changeSaid l s k room ≡ refuses (refused 17 0 0))
+    → ⊥
+seventeen-before-sixteen f =
+    let l = layout 1 0 2 Ascii in
+    let h : 0 < length (changed l both-unfit Binary) = rw (computed .3 .4) (lit≤ tt) in
+    eqb-false 16 17 refl (one-refusal (changeSaid l both-unfit Binary 0) (refused 16 1 3) (refused 17 0 0) (computed .3 .3) (f l both-unfit Binary 0 (computed .3 .0) h) .0)
+
+pub later-row-first : ((l : Layout) (s : List ℕ) (k : Kind) (room : ℕ) (r : Refusal) → checkFile l s ≡ Yes
+    → fitRow (inKind k l) (l .rows) (rowAt l s (l .rows - 1)) ≡ refuses r → changeSaid l s k room ≡ refuses r)
+    → ⊥
+later-row-first f =
+    let l = layout 1 0 2 Ascii in
+    eqb-false 1 2 refl (one-refusal (changeSaid l both-unfit Binary 0) (refused 16 1 3) (refused 16 2 3) (computed .3 .3) (f l both-unfit Binary 0 (refused 16 2 3) (computed .3 .0) (computed .3 .5)) .1)
+
+pub length-says-17 : ((l : Layout) (s : List ℕ) (k : Kind) (room : ℕ) (r : Refusal) → changeSaid l s k room ≡ refuses r → bytesNeeded l s k ≡ refuses r) → ⊥
+length-says-17 f =
+    let e : changeSaid (of-t1 Ascii) t1 Binary 0 ≡ refuses (refused 17 0 0) = change-needs (of-t1 Ascii) t1 Binary 0 ∙ rw (vectors .1 .0) in
+    never-17 (of-t1 Ascii) t1 Binary (refused 17 0 0) (f (of-t1 Ascii) t1 Binary 0 (refused 17 0 0) e) refl
+
+-- the recording of the rules, with the time code -0h30
+pub minus-lost : readConfig (recording "03/02/2024,09:15:00.000000" "-0h30,0") .config .code ≡ pos 30 → ⊥
+minus-lost e =
+    let q : negℤ (pos 30) ≡ pos 30 = sym (ap (λ a. a .config .code) (recordings .2)) ∙ e in
+    clash (cc q)
+
+-- the recording of the rules: its first sample is 1 ms before its trigger
+pub first-and-trigger-exchanged : (let c = readConfig (recording "03/02/2024,09:15:00.000000" "0,0") .config in
+    (c .first .time .nanosecond ≡ 1_000_000) × (c .trigger .time .nanosecond ≡ 0))
+    → ⊥
+first-and-trigger-exchanged (e, g) =
+    eqb-false 0 1_000_000 refl (sym (ap (λ a. a .config .first .time .nanosecond) (recordings .0)) ∙ e)

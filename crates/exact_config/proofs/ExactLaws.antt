@@ -1,0 +1,327 @@
+-- THE THEOREMS on configurations: what is accepted, and shows what, is what crate `paper` tells; nothing else is.
+--     last-is              the last of some last rows, told by how they end
+--     shown-is             what is shown, part by part
+--     config-reads         what is read whole is a configuration, and the other way round
+--     config-exactly       the bytes s are accepted and show c exactly when they are a configuration that shows c
+--     config-refused       they are refused, with zeros beside the refusal, exactly when they are none
+--     one-config           a configuration shows one thing
+--     sized-config         a configuration's layout is within the sizes of the house
+-- Assumes nothing.
+use mathlib.Core.Path.{_≡_, refl, sym, ap, subst, _∙_}
+use mathlib.Core.Logic.{_↔_, _⊎_, inl, inr}
+use mathlib.Core.Bool.{Bool}
+use mathlib.Core.List.{List, [], _∷_, _++_, append-nil}
+use Prim.Native.Nat.{ℕ, _-_, _≤_, max}
+use native.Mathlib.Omega.{arith}
+use borrow.Author.Tests.{leb-true, le-leb, eqb-true}
+use lib.Dec.{eqb, leb}
+use lib.IntN.{ℤ}
+use lib.ListN.{length, replicate, length-append}
+use Rattle.lists.specs.Said.{Said, says, refuses}
+use Rattle.lists.specs.Quoted.{quoted}
+use Rattle.lists.proofs.Cases.{clash}
+use Rattle.lists.proofs.Walk as walk
+use Rattle.clock.specs.declared.Date.{Date}
+use Rattle.clock.specs.declared.Time.{Time}
+use Rattle.clock.specs.declared.Span.{Span}
+use Rattle.clock.specs.Spans.{preTrigger}
+use Rattle.lines.specs.Lines.{firstLine, channelsLine, analogLine, statusLine, frequencyLine, ratesLine, dateLine, kindLine, multiplierLine, codesLine, qualityLine}
+use Rattle.model.specs.declared.Kind.{Kind}
+use Rattle.model.specs.declared.Refusal.{Refusal}
+use Rattle.model.specs.declared.Answer.the-variants.{Yes, No}
+use Rattle.model.specs.Refusals.{refused}
+use Rattle.model.specs.Layouts.{isSized, Sized}
+use Rattle.model.proofs.LayoutLaws.{sized}
+use Rattle.rules.specs.declared.Moment.{Moment}
+use Rattle.rules.specs.declared.Config.{Config}
+use Rattle.config.specs.declared.ConfigAnswer.{ConfigAnswer}
+use Rattle.config.specs.Reading.{Place, saidOf}
+use Rattle.config.specs.Config.{configAnswer, lastOf, configuration, noConfig, readConfig, layoutOf}
+use Rattle.config.proofs.SizedLaws.{accepted-sized}
+use Rattle.paper.specs.Lines.{ended, StationLine, ChannelsLine, AnalogLine, StatusLine, FrequencyLine, RatesLine, DateLine, KindLine, MultiplierLine, CodesLine, QualityLine}
+use Rattle.paper.specs.Configuration.{PreTrigger, Configuration}
+use Rattle.exact.proofs.AnswerLaws.{other-told}
+use Rattle.exact.proofs.ClockLaws.{day-exactly}
+use Rattle.exact.proofs.TimeLaws.{time-valid}
+use Rattle.exact.proofs.CalendarLaws.{pretrigger-exactly}
+use Rattle.exact_config.proofs.LineLaws.{station-line-exactly, channels-line-exactly, analog-line-exactly, status-line-exactly, frequency-line-exactly, rates-line-exactly, date-line-exactly, kind-line-exactly, multiplier-line-exactly, codes-line-exactly, quality-line-exactly}
+use Rattle.exact_config.proofs.ConfigLaws.{LastEnd, done-reads, holds-reads, bind-reads, line-reads, last-reads, times-reads, lasts-reads}
+
+last-to : (before : ℕ) (l : List ℕ) → 1 ≤ length l → (others : List ℕ) × (l ≡ others ++ lastOf before l ∷ [])
+last-to before [] h = absurd (omega arith)
+last-to before (r ∷ []) h = ([], refl)
+last-to before (r ∷ q ∷ l) h = let (others, e) = last-to r (q ∷ l) (omega arith) in (r ∷ others, ap (_∷_ r) e)
+
+last-from : (before : ℕ) (others : List ℕ) (r : ℕ) → lastOf before (others ++ r ∷ []) ≡ r
+last-from before [] r = refl
+last-from before (q ∷ others) r = last-from q others r
+
+pub last-is : (l : List ℕ) (r : ℕ) → 1 ≤ length l → lastOf 0 l ≡ r ↔ ((others : List ℕ) × (l ≡ others ++ r ∷ []))
+last-is l r h = (
+  λ e. rw (← e) (last-to 0 l h),
+  λ (others, e). ap (lastOf 0) e ∙ last-from 0 others r,
+)
+
+-- the moments of two date lines are valid, so that the time between them is what it is
+pre-is : (f t : Moment) (k l : List ℕ) (p : Span) → DateLine f k → DateLine t l → preTrigger (f .date) (f .time) (t .date) (t .time) ≡ p ↔ PreTrigger f t p
+pre-is f t k l p h g =
+    pretrigger-exactly f t (day-exactly (f .date) .1 (h .date .valid)) (time-valid (f .time) (h .f 2) (h .time))
+    (day-exactly (t .date) .1 (g .date .valid)) (time-valid (t .time) (g .f 2) (g .time)) p
+
+-- a line of quality and leap second code is not empty
+quality-some : (q p : ℕ) (l : List ℕ) → QualityLine q p l → 1 ≤ length l
+quality-some q p l w = let e = ap length (w .fields .joined) in omega (arith, simp length-append at e)
+
+-- what is shown
+shown-is : (c : Config) (lasts : List ℕ) (rows : ℕ) (p : Span) → c .lasts ≡ lasts → c .rows ≡ rows → c .pretrigger ≡ p
+    → record {
+      analogs = c .analogs;
+      statuses = c .statuses;
+      rates = c .rates;
+      lasts = lasts;
+      rows = rows;
+      first = c .first;
+      trigger = c .trigger;
+      pretrigger = p;
+      kind = c .kind;
+      code = c .code;
+      x = c .x;
+      local = c .local;
+      quality = c .quality;
+      leap = c .leap;
+    } ≡ c
+shown-is c lasts rows p a b d = rw (← a, ← b, ← d)
+
+-- nothing after the last line
+end-of : (e u : List ℕ) → LastEnd e u → (e ≡ []) ⊎ (e ≡ quoted "\r\n")
+end-of e u (inl q) = inr q
+end-of e u (inr (q, z)) = inl q
+
+end-from : (e : List ℕ) → (e ≡ []) ⊎ (e ≡ quoted "\r\n") → LastEnd e []
+end-from e (inl q) = inr (q, refl)
+end-from e (inr q) = inl q
+
+-- a date line's moment
+abbrev moment : Date × Time → Moment
+moment v = record { date = v .0; time = v .1 }
+
+-- what the lines show together
+abbrev shownBy : ℕ × ℕ → ℕ → List ℕ → Date × Time → Date × Time → Kind → ℤ × Bool × ℤ → ℕ × ℕ → Config
+shownBy counts rates lasts first trigger kind codes quality =
+    record {
+      analogs = counts .0;
+      statuses = counts .1;
+      rates = rates;
+      lasts = lasts ++ replicate (8 - length lasts) 0;
+      rows = lastOf 0 lasts;
+      first = moment first;
+      trigger = moment trigger;
+      pretrigger = preTrigger (first .0) (first .1) (trigger .0) (trigger .1);
+      kind = kind;
+      code = codes .0;
+      x = codes .1;
+      local = codes .2;
+      quality = quality .0;
+      leap = quality .1;
+    }
+
+-- what follows from what is given
+given : {A C : Type 0} → A → (A → C) → C
+given a k = k a
+
+config-reads : (s : List ℕ) (c : Config) → ((p : Place) × (configuration (1, s) ≡ says (c, p))) ↔ Configuration s c
+unfolding configuration
+config-reads s c =
+    let reads =
+    bind-reads (holds-reads (λ s. leb (length s) 65536) (λ n. refused 1 0 0)) (λ z0.
+    bind-reads (line-reads firstLine (λ z. StationLine) (λ z. station-line-exactly)) (λ z1.
+    bind-reads (line-reads channelsLine (λ v. ChannelsLine (v .0) (v .1)) (λ v. channels-line-exactly (v .0) (v .1))) (λ v2.
+    bind-reads (times-reads analogLine AnalogLine analog-line-exactly (v2 .0) 1) (λ z3.
+    bind-reads (times-reads statusLine StatusLine status-line-exactly (v2 .1) 1) (λ z4.
+    bind-reads (line-reads frequencyLine (λ z. FrequencyLine) (λ z. frequency-line-exactly)) (λ z5.
+    bind-reads (line-reads ratesLine RatesLine rates-line-exactly) (λ r.
+    bind-reads (lasts-reads r (max 1 r) 0) (λ lasts.
+    bind-reads (line-reads dateLine (λ v. DateLine (moment v)) (λ v. date-line-exactly (moment v))) (λ f.
+    bind-reads (line-reads dateLine (λ v. DateLine (moment v)) (λ v. date-line-exactly (moment v))) (λ t.
+    bind-reads (line-reads kindLine KindLine kind-line-exactly) (λ k.
+    bind-reads (line-reads multiplierLine (λ z. MultiplierLine) (λ z. multiplier-line-exactly)) (λ z11.
+    bind-reads (line-reads codesLine (λ v. CodesLine (v .0) (v .2) (v .1)) (λ v. codes-line-exactly (v .0) (v .2) (v .1))) (λ v12.
+    bind-reads (last-reads qualityLine (λ v. QualityLine (v .0) (v .1)) (λ v. quality-line-exactly (v .0) (v .1)) (λ v. quality-some (v .0) (v .1))) (λ v13.
+    bind-reads (holds-reads (λ s. eqb (length s) 0) (λ n. refused 9 n 0)) (λ z14.
+    done-reads (shownBy v2 r lasts f t k v12 v13))))))))))))))))
+    in (
+      λ (p, e).
+          given (reads .exactly 1 s c (p .1) .0 (p .0, e)) (λ (z0, s0, (small, i0), (z1, s1, (l1, i1, g1), (v2, s2, (l2, i2, g2), (z3, s3, (t3, i3, g3), (z4, s4, (t4, i4, g4), (z5, s5, (l5, i5, g5), (r, s6, (l6, i6, g6), more))))))).
+          given more (λ (lasts, s7, (t6, i7, n7, g7), (f, s8, (l7, i8, g8), (t, s9, (m7, i9, g9), (k, s10, (l8, i10, g10), (z11, s11, (l9, i11, g11), (v12, s12, (l10, i12, g12), last)))))).
+          given last (λ (v13, s13, (l11, end, i13, g13, ends), (z14, s14, (none, i14), (shown, i15))).
+          let nothing : s13 ≡ [] = walk.none s13 (omega (arith, eqb-true (length s13) 0 none)) in
+          let some : 1 ≤ length lasts = omega arith in
+          subst (λ (x : Config). Configuration s x) shown (record {
+            l1 = l1;
+            station = g1;
+            l2 = l2;
+            channels = g2;
+            t3 = t3;
+            analogs = g3;
+            t4 = t4;
+            statuses = g4;
+            l5 = l5;
+            frequency = g5;
+            l6 = l6;
+            rates = g6;
+            lasts = lasts;
+            t6 = t6;
+            rateLines = g7;
+            rateCount = n7;
+            lastsShown = refl;
+            rows = last-is lasts (lastOf 0 lasts) some .0 refl;
+            l7 = l7;
+            first = g8;
+            m7 = m7;
+            trigger = g9;
+            pretrigger = pre-is (moment f) (moment t) l7 m7 (preTrigger (f .0) (f .1) (t .0) (t .1)) (g8 .is) (g9 .is) .0 refl;
+            l8 = l8;
+            kind = g10;
+            l9 = l9;
+            multiplier = g11;
+            l10 = l10;
+            codes = g12;
+            l11 = l11;
+            quality = g13;
+            end = end;
+            ends = end-of end s13 ends;
+            whole = i0 ∙ i1 ∙ ap (_++_ (ended l1)) (i2 ∙ ap (_++_ (ended l2)) (i3 ∙ ap (_++_ t3) (i4 ∙ ap (_++_ t4) (i5 ∙ ap (_++_ (ended l5)) (i6 ∙ ap (_++_ (ended l6))
+                (i7 ∙ ap (_++_ t6) (i8 ∙ ap (_++_ (ended l7)) (i9 ∙ ap (_++_ (ended m7)) (i10 ∙ ap (_++_ (ended l8)) (i11 ∙ ap (_++_ (ended l9)) (i12 ∙ ap (_++_ (ended l10)) (i13 ∙ ap (_++_ l11) (ap (_++_ end) nothing ∙ append-nil end)))))))))))));
+            small = leb-true (length s) 65536 small;
+          })))),
+      λ w.
+          let s12 = w .l11 ++ w .end in
+          let s11 = ended (w .l10) ++ s12 in
+          let s10 = ended (w .l9) ++ s11 in
+          let s9 = ended (w .l8) ++ s10 in
+          let s8 = ended (w .m7) ++ s9 in
+          let s7 = ended (w .l7) ++ s8 in
+          let s6 = w .t6 ++ s7 in
+          let s5 = ended (w .l6) ++ s6 in
+          let s4 = ended (w .l5) ++ s5 in
+          let s3 = w .t4 ++ s4 in
+          let s2 = w .t3 ++ s3 in
+          let s1 = ended (w .l2) ++ s2 in
+          let n = w .rateCount in
+          let some : 1 ≤ length (w .lasts) = omega arith in
+          let shown = shown-is c (w .lasts ++ replicate (8 - length (w .lasts)) 0) (lastOf 0 (w .lasts)) (preTrigger (c .first .date) (c .first .time) (c .trigger .date) (c .trigger .time))
+          (w .lastsShown)
+          (sym (last-is (w .lasts) (c .rows) some .1 (w .rows)))
+          (sym (pre-is (c .first) (c .trigger) (w .l7) (w .m7) (c .pretrigger) (w .first .is) (w .trigger .is) .1 (w .pretrigger)))
+          in
+          let (k, e) = reads .exactly 1 s c [] .1 (
+            tt,
+            s,
+            (le-leb (length s) 65536 (w .small), refl),
+            (
+              tt,
+              s1,
+              (w .l1, w .whole, w .station),
+              (
+                (c .analogs, c .statuses),
+                s2,
+                (w .l2, refl, w .channels),
+                (
+                  tt,
+                  s3,
+                  (w .t3, refl, w .analogs),
+                  (
+                    tt,
+                    s4,
+                    (w .t4, refl, w .statuses),
+                    (
+                      tt,
+                      s5,
+                      (w .l5, refl, w .frequency),
+                      (
+                        c .rates,
+                        s6,
+                        (w .l6, refl, w .rates),
+                        (
+                          w .lasts,
+                          s7,
+                          (w .t6, refl, w .rateCount, w .rateLines),
+                          (
+                            (c .first .date, c .first .time),
+                            s8,
+                            (w .l7, refl, w .first),
+                            (
+                              (c .trigger .date, c .trigger .time),
+                              s9,
+                              (w .m7, refl, w .trigger),
+                              (
+                                c .kind,
+                                s10,
+                                (w .l8, refl, w .kind),
+                                (
+                                  tt,
+                                  s11,
+                                  (w .l9, refl, w .multiplier),
+                                  (
+                                    (c .code, c .x, c .local),
+                                    s12,
+                                    (w .l10, refl, w .codes),
+                                    (
+                                      (c .quality, c .leap),
+                                      [],
+                                      (w .l11, w .end, ap (_++_ (w .l11)) (sym (append-nil (w .end))), w .quality, end-from (w .end) (w .ends)),
+                                      (
+                                        tt,
+                                        [],
+                                        (refl, refl),
+                                        (shown, refl),
+                                      ),
+                                    ),
+                                  ),
+                                ),
+                              ),
+                            ),
+                          ),
+                        ),
+                      ),
+                    ),
+                  ),
+                ),
+              ),
+            ),
+          )
+          in
+          ((k, []), e),
+    )
+
+-- what is accepted was said
+accepted-said : (x : Said Refusal (Config × Place)) (c : Config) → configAnswer (saidOf x) ≡ record { answer = Yes; config = c } → (p : Place) × (x ≡ says (c, p))
+accepted-said (says (d, p)) c e = (p, ap (λ (a : ConfigAnswer). says (a .config, p)) e)
+accepted-said (refuses r) c e = let q : No r ≡ Yes = ap (λ (a : ConfigAnswer). a .answer) e in clash (cc)
+
+pub config-exactly : (s : List ℕ) (c : Config) → (readConfig s ≡ record { answer = Yes; config = c }) ↔ Configuration s c
+unfolding readConfig
+config-exactly s c = (
+  λ e. config-reads s c .0 (accepted-said (configuration (1, s)) c e),
+  λ w. ap (λ (x : Said Refusal (Config × Place)). configAnswer (saidOf x)) (config-reads s c .1 w .1),
+)
+
+-- an answer is yes, or no and zeros beside it
+answer-cases : (x : Said Refusal Config) → ((r : Refusal) × (configAnswer x ≡ record { answer = No r; config = noConfig })) ⊎ ((c : Config) × (configAnswer x ≡ record { answer = Yes; config = c }))
+answer-cases (says c) = inr (c, refl)
+answer-cases (refuses r) = inl (r, refl)
+
+pub config-refused : (s : List ℕ) → ((c : Config) → Configuration s c → ⊥) ↔ ((r : Refusal) × (readConfig s ≡ record { answer = No r; config = noConfig }))
+unfolding readConfig
+config-refused s =
+    let w = other-told (answer-cases (saidOf (configuration (1, s)))) (λ (c, y) (r, n). let q : Yes ≡ No r = ap (λ (a : ConfigAnswer). a .answer) (sym y ∙ n) in clash (cc)) in
+    (λ h. w .1 (λ (c, y). h c (config-exactly s c .0 y)), λ n c h. w .0 n (c, config-exactly s c .1 h))
+
+pub one-config : (s : List ℕ) (c d : Config) → Configuration s c → Configuration s d → c ≡ d
+one-config s c d h g = ap (λ (a : ConfigAnswer). a .config) (sym (config-exactly s c .1 h) ∙ config-exactly s d .1 g)
+
+pub sized-config : (s : List ℕ) (c : Config) → Configuration s c → Sized (layoutOf c)
+sized-config s c h =
+    let e = config-exactly s c .1 h in
+    let q : readConfig s .config ≡ c = ap (λ (a : ConfigAnswer). a .config) e in
+    sized (layoutOf c) (ap (λ (d : Config). isSized (layoutOf d)) (sym q) ∙ accepted-sized s (ap (λ (a : ConfigAnswer). a .answer) e))

@@ -6,6 +6,7 @@
 --     as-the-question         the change refuses as the length question does, or else with 17
 --     never-17                the length question never says 17
 --     all-placed              each call gives each number at the place that the table has for it (Placed.antt)
+--     shown-as-given          demand 2 of the exported pair: a row that zl_write_row takes is the one that zl_row shows with the places that it was given in
 -- Assumes nothing.
 use mathlib.Core.Path.{_≡_, refl, sym, ap, _∙_}
 use mathlib.Core.Logic.{_⊎_, inl, inr}
@@ -13,7 +14,7 @@ use mathlib.Core.Bool.{Bool, true, false}
 use mathlib.Core.List.{List}
 use Prim.Native.Nat.{ℕ, _+_, _-_, _≤_}
 use native.Mathlib.Omega.{arith}
-use borrow.Author.Tests.{leb-true}
+use borrow.Author.Tests.{eqb-true, leb-true}
 use lib.Dec.{lit≤, eqb, leb}
 use lib.IntN.{ℤ}
 use lib.ListN.{length, take, drop}
@@ -43,6 +44,7 @@ use Rattle.change.specs.Change.{fitRows, changed, bytesNeeded, changeSaid}
 use Rattle.change.proofs.WriteLaws.{change-needs, ready}
 use Rattle.places.specs.Rows.{placesOf, rowPlaces, unfit, rowOf}
 use Rattle.places.specs.Configs.{configPlaces}
+use Rattle.places.proofs.RowLaws.{places-back}
 use Rattle.reasons.specs.Reasons.{reasonOf, textSaid, reasonSaid}
 use Rattle.zagalume.specs.declared.zl_answer.{«zl_answer»}
 use Rattle.zagalume.specs.Calls.{told, toldWritten, toldShown, kindSaid, layoutBy, accepted, configSaid, rowSaid, placed, configCall, checkCall, rowIn, rowCall, rowAsked, writeIn, writeCall, lengthIn, lengthCall, changeIn, changeCall}
@@ -388,3 +390,16 @@ all-placed = (
   (λ a d rows kind s new r e. only-given Placed (lengthCall a d rows kind s new) r e (length-call-only a d rows kind s new)),
   (λ a d rows kind s new room r e. only-given Placed (changeCall a d rows kind s new room) r e (change-call-only a d rows kind s new room)),
 )
+
+-- DEMAND 2, the exported pair. The places of a row that was handed in are those that it was handed in by; places past 1 + A + D are not read
+pub shown-as-given : (l : Layout) (n : ℕ) (zs : List ℤ) (r : Row) → rowAsked l n zs ≡ says r → rowPlaces l r ≡ take (placesOf l) zs
+unfolding rowAsked
+shown-as-given l n zs r e =
+    let fits = must (eqb (unfit l zs) (placesOf l)) (refused 16 n (2 + unfit l zs)) >> says (rowOf l zs) in
+    let there = must (hasRow l n) (refused 15 0 0) >> fits in
+    let a = must-told (isSized l) (refused 10 0 0) (must (leb (placesOf l) (length zs)) (refused 10 0 0) >> there) r e in
+    let b = must-told (leb (placesOf l) (length zs)) (refused 10 0 0) there r (a .1) in
+    let c = must-told (hasRow l n) (refused 15 0 0) fits r (b .1) in
+    let d = must-told (eqb (unfit l zs) (placesOf l)) (refused 16 n (2 + unfit l zs)) (says (rowOf l zs)) r (c .1) in
+    let q : r ≡ rowOf l zs = cc (d .1) in
+    rw q (places-back l zs (eqb-true (unfit l zs) (placesOf l) (d .0)) (leb-true (placesOf l) (length zs) (b .0)))

@@ -1,5 +1,9 @@
--- The demands on written rows and on the change of kind, told without a reader or a writer (crate `paper`, Data and Written).
--- Demand 2, which files are accepted and what is shown of them, is data-exactly, data-refused and row-refused (crate `exact_data`, proofs/FileLaws.antt).
+-- The demands on data files, on written rows and on the change of kind, told without a reader or a writer (crate `paper`, Data and Written); crate `exact_data` proves the first five.
+--     data-exactly           demand 2: a file is accepted, and these rows are shown, exactly when the layout is sized and it is the data file of these rows
+--     row-shown              demand 2: row n is shown, and is q, exactly when the file is the data file of rows of which q is the n-th
+--     data-refused           demands 1 and 2: a file is refused exactly when it is the data file of no rows
+--     row-refused            demands 1 and 2: a row is refused, with zeros beside it, exactly when the file is, or when there is no such row
+--     one-file               demand 2: a file is the data file of one row of rows alone
 --     written-exactly        demand 2: a row is written exactly when its samples are in range
 --     written-stands         demand 2: a row that was written, standing in a data file as row n, is shown as it was written, its places past A and D zero
 --     three-endings          demand 2: rows that were written, one after the other, and any of the endings are the data file of these rows
@@ -37,7 +41,7 @@ use Rattle.data.proofs.FileLaws.{Writes}
 use Rattle.change.specs.Change.{changeSaid}
 use Rattle.paper.specs.Data.{TextFile, DataFile}
 use Rattle.paper.specs.Written.{Fitting, Stands, EndingOf, PlainText, Restored, AllInRange, FirstOutside}
-use Rattle.exact_data.proofs.FileLaws.{data-exactly}
+pub use Rattle.exact_data.proofs.FileLaws.{data-exactly, row-shown, data-refused, row-refused, one-file}
 use Rattle.exact_data.proofs.StandLaws.{fitting-exactly, row-stands, rows-stand, bytes-stand}
 use Rattle.exact_data.proofs.PlainLaws as plain
 use Rattle.exact_data.proofs.ChangeLaws.{none-first, one-first, new-file, new-said, back-said, restored, told}

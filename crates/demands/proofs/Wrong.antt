@@ -1,7 +1,8 @@
 -- WRONG PROGRAMS, each told by what it does. A call with our contract does not do it: from a promise that it does so on every input a contradiction follows, on a small file.
 --     refuses-every-file, refuses-every-configuration, accepts-every-file, accepts-every-configuration
 --     shows-zero-rows, shows-row-1-always
---     rows-from-the-length, a-row-more-accepted, a-row-less-accepted     the rows are counted in the file and not taken from the layout
+--     rows-from-the-length            the rows are counted in the file: what is right for some number of rows is accepted for any
+--     a-row-more-accepted, a-row-less-accepted
 --     writes-nothing, changes-nothing
 --     copies-unchanged                the change of kind copies the file
 --     row-1-and-the-rest-invented     what the change writes is told by row 1 alone
@@ -18,7 +19,7 @@
 use mathlib.Core.Path.{_≡_, refl, sym, ap, _∙_}
 use mathlib.Core.Bool.{true, false}
 use mathlib.Core.List.{List, [], _∷_, _++_}
-use Prim.Native.Nat.{ℕ, suc, _+_, _-_, _/_, _<_, _≤_}
+use Prim.Native.Nat.{ℕ, suc, _+_, _-_, _<_, _≤_}
 use native.Mathlib.Omega.{arith}
 use borrow.Author.Tests.{eqb-false, le-leb}
 use lib.Dec.{lit≤, eqb, leb}
@@ -36,7 +37,7 @@ use Rattle.numerals.specs.Counts.{lengthIn, isDigit, numberOf, readCount}
 use Rattle.numerals.specs.Wholes.{signLength, hasMinus, withSign, signedNumber, readWhole}
 use Rattle.numerals.specs.Decimals.{decimalIn, decimal, plain}
 use Rattle.model.specs.declared.Kind.{Kind}
-use Rattle.model.specs.declared.Kind.the-variants.{Ascii, Binary}
+use Rattle.model.specs.declared.Kind.the-variants.{Ascii, Binary, Binary32}
 use Rattle.model.specs.declared.Layout.{Layout}
 use Rattle.model.specs.declared.Row.{Row}
 use Rattle.model.specs.declared.Refusal.{Refusal}
@@ -61,8 +62,8 @@ use Rattle.data.specs.Files.{fileFine, rowAt, bytesOf, hasRow, misfitOf, checkF
 use Rattle.change.specs.Change.{fitRow, fitRows, bytesNeeded, changed, changeSaid}
 use Rattle.change.proofs.WriteLaws.{needed-length, change-needs}
 use Rattle.demands.proofs.Calls.{never-17}
-use Rattle.demands.proofs.Recordings.{recording, recordings}
-use Rattle.demands.proofs.Vectors.{layout, row, of-t1, t1, t2, vectors}
+use Rattle.demands.proofs.Recording.{recordingWith, recording, recording-accepted, recording-code}
+use Rattle.demands.proofs.Vectors.{layout, row, of-t1, t1, t2, t3, vectors}
 
 -- T1's rows
 abbrev row-1 : Row
@@ -93,23 +94,25 @@ abbrev both-unfit : List ℕ
 both-unfit = quoted "1,0,32768\r\n2,0,32768\r\n"
 
 computed :
-    -- T1 has two rows, in either kind
+    -- T1 has two rows, in every kind
     ((checkFile (layout 1 1 1 Ascii) t1 ≡ No (refused 11 2 0))
     × (checkFile (layout 1 1 3 Ascii) t1 ≡ No (refused 14 3 0))
     × (checkFile (layout 1 1 1 Binary) t2 ≡ No (refused 11 0 0))
+    × (checkFile (layout 1 1 1 Binary32) t3 ≡ No (refused 11 0 0))
     × (hasRow (of-t1 Ascii) 2 ≡ true))
     -- one row is written
     × ((writeSaid (of-t1 Binary) 1 row-1 12 ≡ says (take 12 t2))
     × (writeSaid (of-t1 Binary) 1 row-1 13 ≡ says (take 12 t2))
     × (writeSaid (of-t1 Ascii) 2 row-2 14 ≡ says (quoted "2,1000,300,1\r\n")))
     -- files are changed
-    × ((checkFile (of-t1 Ascii) other ≡ Yes)
-    × (showRow (of-t1 Ascii) t1 1 ≡ showRow (of-t1 Ascii) other 1)
+    × ((showRow (of-t1 Ascii) t1 1 ≡ showRow (of-t1 Ascii) other 1)
     × (changeSaid (of-t1 Ascii) other Binary 24 ≡ says other-changed)
     × (changeSaid (of-t1 Binary) t2 Ascii 27 ≡ says t1)
     × (changeSaid (of-t1 Binary) zeros Ascii 27 ≡ says zeros-text))
     -- samples do not fit
     × ((checkFile (layout 1 0 2 Ascii) both-unfit ≡ Yes)
+    × (checkFile (layout 1 0 2 Ascii) second-unfit ≡ Yes)
+    × (fitRow (layout 1 0 2 Binary) 1 (rowAt (layout 1 0 2 Ascii) second-unfit 0) ≡ says tt)
     × (changeSaid (layout 1 0 2 Ascii) second-unfit Binary 20 ≡ refuses (refused 16 2 3))
     × (bytesOf (layout 1 0 2 Binary) 1 (rowAt (layout 1 0 2 Ascii) second-unfit 0) ≡ 0x01 ∷ replicate 7 0 ++ 0x01 ∷ 0x00 ∷ [])
     × (changeSaid (layout 1 0 2 Ascii) both-unfit Binary 0 ≡ refuses (refused 16 1 3))
@@ -120,10 +123,10 @@ unfolding checkFile showRow writeSaid isSized hasRow fileFine rowAt checkText te
     changeSaid fitRows misfitOf misfit rowSize changed fileOf endMark bytesOf binary.bytesOf packed wordBytes wordOf signedOf unsignedOf
     checkBinary binaries.checkRows binaryRow binary.rowOf rowCheck rowRefusal decimalIn decimal plain lineOf textOf
 computed = (
-  (refl, refl, refl, refl),
-  (refl, refl, refl),
   (refl, refl, refl, refl, refl),
-  (refl, refl, refl, refl, refl, refl),
+  (refl, refl, refl),
+  (refl, refl, refl, refl),
+  (refl, refl, refl, refl, refl, refl, refl, refl),
 )
 
 -- no answer is yes and no
@@ -156,15 +159,15 @@ refuses-every-file f = let e = f (of-t1 Ascii) t1 in yes-no (checkFile (of-t1 As
 
 pub refuses-every-configuration : ((s : List ℕ) → (r : Refusal) × (readConfig s .answer ≡ No r)) → ⊥
 refuses-every-configuration f =
-    let s = recording "03/02/2024,09:15:00.000000" "0,0" in
-    let e = f s in
-    yes-no (readConfig s .answer) (e .0) (ap (λ a. a .answer) (recordings .0)) (e .1)
+    let e = f recording in
+    yes-no (readConfig recording .answer) (e .0) (ap (λ a. a .answer) recording-accepted) (e .1)
 
-pub accepts-every-file : ((l : Layout) (s : List ℕ) → checkFile l s ≡ Yes) → ⊥
-accepts-every-file f = yes-no (checkFile (layout 1 1 1 Ascii) t1) (refused 11 2 0) (f (layout 1 1 1 Ascii) t1) (computed .0 .0)
+pub accepts-every-file : ((l : Layout) (s : List ℕ) → isSized l ≡ true → checkFile l s ≡ Yes) → ⊥
+unfolding isSized
+accepts-every-file f = yes-no (checkFile (layout 1 1 1 Ascii) t1) (refused 11 2 0) (f (layout 1 1 1 Ascii) t1 refl) (computed .0 .0)
 
-pub accepts-every-configuration : ((s : List ℕ) → readConfig s .answer ≡ Yes) → ⊥
-accepts-every-configuration f = yes-no (readConfig [] .answer) (refused 2 1 0) (f []) (ap (λ a. a .answer) (vectors .10))
+pub accepts-every-configuration : ((s : List ℕ) → length s ≤ 65536 → readConfig s .answer ≡ Yes) → ⊥
+accepts-every-configuration f = yes-no (readConfig [] .answer) (refused 2 1 0) (f [] (lit≤ tt)) (ap (λ a. a .answer) (vectors .10))
 
 pub shows-zero-rows : ((l : Layout) (s : List ℕ) (n : ℕ) → showRow l s n .row ≡ zeroRow) → ⊥
 unfolding zeroRow
@@ -173,19 +176,28 @@ shows-zero-rows f =
 
 pub shows-row-1-always : ((l : Layout) (s : List ℕ) (n : ℕ) → checkFile l s ≡ Yes → hasRow l n ≡ true → showRow l s n ≡ showRow l s 1) → ⊥
 shows-row-1-always f =
-    let e = sym (vectors .0 .3) ∙ f (of-t1 Ascii) t1 2 (vectors .0 .1) (computed .0 .3) ∙ vectors .0 .2 in
+    let e = sym (vectors .0 .3) ∙ f (of-t1 Ascii) t1 2 (vectors .0 .1) (computed .0 .4) ∙ vectors .0 .2 in
     eqb-false 1000 0 refl (ap (λ a. a .row .time) e)
 
--- the rows are counted in the file: by its length where they are all of one length
-pub rows-from-the-length : ((a d rows : ℕ) (s : List ℕ) → checkFile (layout a d (length s / rowSize (layout a d rows Binary)) Binary) s ≡ checkFile (layout a d rows Binary) s) → ⊥
-unfolding rowSize
-rows-from-the-length f = yes-no (checkFile (layout 1 1 1 Binary) t2) (refused 11 0 0) (sym (f 1 1 1 t2) ∙ vectors .1 .3) (computed .0 .2)
+pub rows-from-the-length : (k : Kind)
+    → ((a d rows m : ℕ) (s : List ℕ) → isSized (layout a d rows k) ≡ true → checkFile (layout a d m k) s ≡ Yes → checkFile (layout a d rows k) s ≡ Yes)
+    → ⊥
+unfolding isSized
+rows-from-the-length Ascii f = yes-no (checkFile (layout 1 1 1 Ascii) t1) (refused 11 2 0) (f 1 1 1 2 t1 refl (vectors .0 .1)) (computed .0 .0)
+rows-from-the-length Binary f = yes-no (checkFile (layout 1 1 1 Binary) t2) (refused 11 0 0) (f 1 1 1 2 t2 refl (vectors .1 .3)) (computed .0 .2)
+rows-from-the-length Binary32 f = yes-no (checkFile (layout 1 1 1 Binary32) t3) (refused 11 0 0) (f 1 1 1 2 t3 refl (vectors .2 .3)) (computed .0 .3)
 
-pub a-row-more-accepted : ((a d rows : ℕ) (k : Kind) (s : List ℕ) → checkFile (layout a d (rows + 1) k) s ≡ Yes → checkFile (layout a d rows k) s ≡ Yes) → ⊥
-a-row-more-accepted f = yes-no (checkFile (layout 1 1 1 Ascii) t1) (refused 11 2 0) (f 1 1 1 Ascii t1 (vectors .0 .1)) (computed .0 .0)
+pub a-row-more-accepted : ((a d rows : ℕ) (k : Kind) (s : List ℕ) → isSized (layout a d rows k) ≡ true → checkFile (layout a d (rows + 1) k) s ≡ Yes
+    → checkFile (layout a d rows k) s ≡ Yes)
+    → ⊥
+unfolding isSized
+a-row-more-accepted f = yes-no (checkFile (layout 1 1 1 Ascii) t1) (refused 11 2 0) (f 1 1 1 Ascii t1 refl (vectors .0 .1)) (computed .0 .0)
 
-pub a-row-less-accepted : ((a d rows : ℕ) (k : Kind) (s : List ℕ) → checkFile (layout a d rows k) s ≡ Yes → checkFile (layout a d (rows + 1) k) s ≡ Yes) → ⊥
-a-row-less-accepted f = yes-no (checkFile (layout 1 1 3 Ascii) t1) (refused 14 3 0) (f 1 1 2 Ascii t1 (vectors .0 .1)) (computed .0 .1)
+pub a-row-less-accepted : ((a d rows : ℕ) (k : Kind) (s : List ℕ) → isSized (layout a d (rows + 1) k) ≡ true → checkFile (layout a d rows k) s ≡ Yes
+    → checkFile (layout a d (rows + 1) k) s ≡ Yes)
+    → ⊥
+unfolding isSized
+a-row-less-accepted f = yes-no (checkFile (layout 1 1 3 Ascii) t1) (refused 14 3 0) (f 1 1 2 Ascii t1 refl (vectors .0 .1)) (computed .0 .1)
 
 pub writes-nothing : ((l : Layout) (n : ℕ) (r : Row) (out : List ℕ) → over (writeSaid l n r (length out)) out ≡ out) → ⊥
 writes-nothing f =
@@ -208,35 +220,35 @@ more-room l s k m room new e h =
     let w : b .0 ≤ room = rw (needed-length l s k (b .0) (b .1), q) h in
     change-needs l s k room ∙ rw (b .1, le-leb (b .0) room w, q)
 
-pub copies-unchanged : ((l : Layout) (s : List ℕ) (k : Kind) (out : List ℕ) → checkFile l s ≡ Yes → length s ≤ length out
+pub copies-unchanged : ((l : Layout) (s : List ℕ) (k : Kind) (out new : List ℕ) → changeSaid l s k (length out) ≡ says new → length s ≤ length out
     → over (changeSaid l s k (length out)) out ≡ s ++ drop (length s) out)
     → ⊥
 copies-unchanged f =
     let out = blank 27 in
-    let e : holds t2 out ≡ t1 ++ drop 27 out = rw (more-room (of-t1 Ascii) t1 Binary 24 27 t2 (vectors .1 .1) (lit≤ tt)) at (f (of-t1 Ascii) t1 Binary out (vectors .0 .1) (lit≤ tt)) in
+    let c = more-room (of-t1 Ascii) t1 Binary 24 27 t2 (vectors .1 .1) (lit≤ tt) in
+    let e : holds t2 out ≡ t1 ++ drop 27 out = rw c at (f (of-t1 Ascii) t1 Binary out t2 c (lit≤ tt)) in
     differ (holds t2 out) (t1 ++ drop 27 out) 0 refl e
 
-pub row-1-and-the-rest-invented : ((l : Layout) (s t : List ℕ) (k : Kind) (room : ℕ) → checkFile l s ≡ Yes → checkFile l t ≡ Yes → showRow l s 1 ≡ showRow l t 1
-    → changeSaid l s k room ≡ changeSaid l t k room)
+pub row-1-and-the-rest-invented : ((l : Layout) (s t : List ℕ) (k : Kind) (room : ℕ) (new other : List ℕ) → showRow l s 1 ≡ showRow l t 1
+    → changeSaid l s k room ≡ says new → changeSaid l t k room ≡ says other → new ≡ other)
     → ⊥
 row-1-and-the-rest-invented f =
-    let e : says t2 ≡ says other-changed = sym (vectors .1 .1) ∙ f (of-t1 Ascii) t1 other Binary 24 (vectors .0 .1) (computed .2 .0) (computed .2 .1) ∙ computed .2 .2 in
-    let q : t2 ≡ other-changed = cc e in
-    differ t2 other-changed 20 refl q
+    differ t2 other-changed 20 refl (f (of-t1 Ascii) t1 other Binary 24 t2 other-changed (computed .2 .0) (vectors .1 .1) (computed .2 .1))
 
 pub invented-length : (told : Layout → Kind → ℕ → ℕ) → ((l : Layout) (s : List ℕ) (k : Kind) (room : ℕ) (new : List ℕ) → changeSaid l s k room ≡ says new → told l k room ≡ length new) → ⊥
 invented-length told f =
-    eqb-false 27 21 refl (sym (f (of-t1 Binary) t2 Ascii 27 t1 (computed .2 .3)) ∙ f (of-t1 Binary) zeros Ascii 27 zeros-text (computed .2 .4))
+    eqb-false 27 21 refl (sym (f (of-t1 Binary) t2 Ascii 27 t1 (computed .2 .2)) ∙ f (of-t1 Binary) zeros Ascii 27 zeros-text (computed .2 .3))
 
--- the first row is written before the others are looked at
-pub writes-beside-a-no : ((l : Layout) (s : List ℕ) (k : Kind) (out : List ℕ) → length (bytesOf (inKind k l) 1 (rowAt l s 0)) ≤ length out
+-- a row that fits is written before the next is looked at
+pub writes-beside-a-no : ((l : Layout) (s : List ℕ) (k : Kind) (out : List ℕ) → checkFile l s ≡ Yes → fitRow (inKind k l) 1 (rowAt l s 0) ≡ says tt
+    → length (bytesOf (inKind k l) 1 (rowAt l s 0)) ≤ length out
     → take (length (bytesOf (inKind k l) 1 (rowAt l s 0))) (over (changeSaid l s k (length out)) out) ≡ bytesOf (inKind k l) 1 (rowAt l s 0))
     → ⊥
 writes-beside-a-no f =
     let l = layout 1 0 2 Ascii in
     let out = blank 20 in
     let b : List ℕ = 0x01 ∷ replicate 7 0 ++ 0x01 ∷ 0x00 ∷ [] in
-    let e : take 10 out ≡ b = rw (computed .3 .2, computed .3 .1) at (f l second-unfit Binary out) (lit≤ tt) in
+    let e : take 10 out ≡ b = rw (computed .3 .4, computed .3 .3) at (f l second-unfit Binary out (computed .3 .1) (computed .3 .2)) (lit≤ tt) in
     differ (take 10 out) b 0 refl e
 
 pub writes-past-what-it-reports : (z : ℕ) → ((l : Layout) (n : ℕ) (r : Row) (out new : List ℕ) → writeSaid l n r (length out) ≡ says new → length new < length out
@@ -269,15 +281,15 @@ pub seventeen-before-sixteen : ((l : Layout) (s : List ℕ) (k : Kind) (room : �
     → ⊥
 seventeen-before-sixteen f =
     let l = layout 1 0 2 Ascii in
-    let h : 0 < length (changed l both-unfit Binary) = rw (computed .3 .4) (lit≤ tt) in
-    eqb-false 16 17 refl (one-refusal (changeSaid l both-unfit Binary 0) (refused 16 1 3) (refused 17 0 0) (computed .3 .3) (f l both-unfit Binary 0 (computed .3 .0) h) .0)
+    let h : 0 < length (changed l both-unfit Binary) = rw (computed .3 .6) (lit≤ tt) in
+    eqb-false 16 17 refl (one-refusal (changeSaid l both-unfit Binary 0) (refused 16 1 3) (refused 17 0 0) (computed .3 .5) (f l both-unfit Binary 0 (computed .3 .0) h) .0)
 
 pub later-row-first : ((l : Layout) (s : List ℕ) (k : Kind) (room : ℕ) (r : Refusal) → checkFile l s ≡ Yes
     → fitRow (inKind k l) (l .rows) (rowAt l s (l .rows - 1)) ≡ refuses r → changeSaid l s k room ≡ refuses r)
     → ⊥
 later-row-first f =
     let l = layout 1 0 2 Ascii in
-    eqb-false 1 2 refl (one-refusal (changeSaid l both-unfit Binary 0) (refused 16 1 3) (refused 16 2 3) (computed .3 .3) (f l both-unfit Binary 0 (refused 16 2 3) (computed .3 .0) (computed .3 .5)) .1)
+    eqb-false 1 2 refl (one-refusal (changeSaid l both-unfit Binary 0) (refused 16 1 3) (refused 16 2 3) (computed .3 .5) (f l both-unfit Binary 0 (refused 16 2 3) (computed .3 .0) (computed .3 .7)) .1)
 
 pub length-says-17 : ((l : Layout) (s : List ℕ) (k : Kind) (room : ℕ) (r : Refusal) → changeSaid l s k room ≡ refuses r → bytesNeeded l s k ≡ refuses r) → ⊥
 length-says-17 f =
@@ -285,14 +297,9 @@ length-says-17 f =
     never-17 (of-t1 Ascii) t1 Binary (refused 17 0 0) (f (of-t1 Ascii) t1 Binary 0 (refused 17 0 0) e) refl
 
 -- the recording of the rules, with the time code -0h30
-pub minus-lost : readConfig (recording "03/02/2024,09:15:00.000000" "-0h30,0") .config .code ≡ pos 30 → ⊥
-minus-lost e =
-    let q : negℤ (pos 30) ≡ pos 30 = sym (ap (λ a. a .config .code) (recordings .2)) ∙ e in
-    clash (cc q)
+pub minus-lost : readConfig (recordingWith "03/02/2024" "-0h30,0") .config .code ≡ pos 30 → ⊥
+minus-lost e = let q : negℤ (pos 30) ≡ pos 30 = sym recording-code ∙ e in clash (cc q)
 
 -- the recording of the rules: its first sample is 1 ms before its trigger
-pub first-and-trigger-exchanged : (let c = readConfig (recording "03/02/2024,09:15:00.000000" "0,0") .config in
-    (c .first .time .nanosecond ≡ 1_000_000) × (c .trigger .time .nanosecond ≡ 0))
-    → ⊥
-first-and-trigger-exchanged (e, g) =
-    eqb-false 0 1_000_000 refl (sym (ap (λ a. a .config .first .time .nanosecond) (recordings .0)) ∙ e)
+pub first-and-trigger-exchanged : (readConfig recording .config .first .time .nanosecond ≡ 1_000_000) × (readConfig recording .config .trigger .time .nanosecond ≡ 0) → ⊥
+first-and-trigger-exchanged (e, g) = eqb-false 0 1_000_000 refl (sym (ap (λ a. a .config .first .time .nanosecond) recording-accepted) ∙ e)

@@ -21,11 +21,11 @@ use Rattle.numerals.specs.Counts.{lengthIn}
 use Rattle.numerals.proofs.CountLaws.{length-bounds, length-is}
 use Rattle.model.specs.declared.Kind.{Kind}
 use Rattle.model.specs.declared.Kind.the-variants.{Ascii, Binary, Binary32}
-use Rattle.fields.specs.declared.KindField as read
+use Rattle.fields.specs.declared.KindField.{KindField}
 use Rattle.fields.specs.declared.KindField.the-variants.{Is, Form, Range}
 use Rattle.fields.specs.Fields.{small, sameWord, readKind}
 use Rattle.fields.proofs.Laws.{other-length}
-use Rattle.paper.specs.Fields.{TextField, isBetween, lowered, KindField}
+use Rattle.paper.specs.Fields.{TextField, isBetween, lowered, KindWord}
 use Rattle.exact.proofs.AnswerLaws.{Answers, Apart, Reads, value-told, form-told, range-none}
 
 small-is : (b : ℕ) → small b ≡ (if isBetween 65 90 b then b + 32 else b)
@@ -58,7 +58,7 @@ lowered-long [] = refl
 lowered-long (b ∷ l) = ap suc (lowered-long l)
 
 -- the answers of a reader of kinds
-abbrev kinds : Answers Kind read.KindField
+abbrev kinds : Answers Kind KindField
 kinds = record { is = Is; form = Form; range = Range }
 
 kinds-apart : Apart kinds
@@ -73,13 +73,13 @@ module _ (f : List ℕ) where
   abbrev wordKind : Kind
   wordKind = if sameWord (quoted "ascii") f then Ascii else if sameWord (quoted "binary") f then Binary else Binary32
 
-  word-kind : isWord ≡ true → KindField wordKind f
+  word-kind : isWord ≡ true → KindWord wordKind f
   word-kind e =
       on-test (sameWord (quoted "ascii") f) (λ t. rw t (word-to (quoted "ascii") f t)) (λ t.
       on-test (sameWord (quoted "binary") f) (λ u. rw (t, u) (word-to (quoted "binary") f u)) (λ u.
       rw (t, u) (word-to (quoted "binary32") f (rw (t, u) at e))))
 
-  kind-word : (k : Kind) → KindField k f → TextField 5 8 f × (isWord ≡ true) × (wordKind ≡ k)
+  kind-word : (k : Kind) → KindWord k f → TextField 5 8 f × (isWord ≡ true) × (wordKind ≡ k)
   kind-word Ascii w =
       let n : 5 ≡ length f = sym (ap length w) ∙ lowered-long f in
       let t = word-from (quoted "ascii") f w in
@@ -113,13 +113,13 @@ module _ (f : List ℕ) where
   kind-reads : Reads kinds (readKind f) (TextField 5 8 f) (λ a. wordKind) (λ a. isWord ≡ true)
   kind-reads = record { apart = kinds-apart; test = λ a. isWord; fair = λ a. (λ e. e, λ e. e); told = kind-said; cases = kind-cases }
 
-  pub kind-exactly : (k : Kind) → readKind f ≡ Is k ↔ KindField k f
+  pub kind-exactly : (k : Kind) → readKind f ≡ Is k ↔ KindWord k f
   kind-exactly k =
       let w = value-told kinds (readKind f) (TextField 5 8 f) (λ a. wordKind) (λ a. isWord ≡ true) kind-reads k in
-      (λ e. let (a, t, q) = w .0 e in subst (λ (x : Kind). KindField x f) q (word-kind t), λ h. w .1 (kind-word k h))
+      (λ e. let (a, t, q) = w .0 e in subst (λ (x : Kind). KindWord x f) q (word-kind t), λ h. w .1 (kind-word k h))
 
   pub kind-form : readKind f ≡ Form ↔ (TextField 5 8 f → ⊥)
   kind-form = form-told kinds (readKind f) (TextField 5 8 f) (λ a. wordKind) (λ a. isWord ≡ true) kind-reads
 
-  pub kind-range : readKind f ≡ Range ↔ (TextField 5 8 f × ((k : Kind) → KindField k f → ⊥))
-  kind-range = range-none kinds (readKind f) (TextField 5 8 f) (λ a. wordKind) (λ a. isWord ≡ true) kind-reads (λ k. KindField k f) kind-exactly
+  pub kind-range : readKind f ≡ Range ↔ (TextField 5 8 f × ((k : Kind) → KindWord k f → ⊥))
+  kind-range = range-none kinds (readKind f) (TextField 5 8 f) (λ a. wordKind) (λ a. isWord ≡ true) kind-reads (λ k. KindWord k f) kind-exactly

@@ -312,7 +312,7 @@ kind-told k kind.Range x e = clash (cc)
 pub kind-line-exactly : (k : Kind) (l : List ℕ) → kindLine l ≡ says k ↔ KindLine k l
 unfolding kindLine
 kind-line-exactly k l =
-    let w = one-field paper.KindField l (at-says (kindAt 1) kind.Is (kind-told 1) (λ x. refl) (readKind (fieldAt 1 l)) (kind-exactly (fieldAt 1 l))) k in
+    let w = one-field paper.KindWord l (at-says (kindAt 1) kind.Is (kind-told 1) (λ x. refl) (readKind (fieldAt 1 l)) (kind-exactly (fieldAt 1 l))) k in
     (λ e. let (f, s, p) = w .0 e in record { f = f; fields = s; kind = p }, λ s. w .1 (s .f, s .fields, s .kind))
 
 pub multiplier-line-exactly : (l : List ℕ) → multiplierLine l ≡ says tt ↔ MultiplierLine l

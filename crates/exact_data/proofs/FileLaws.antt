@@ -4,7 +4,9 @@
 --     fine-exactly               a file is fine, and its rows are r 0, r 1, .., exactly when it is the data file of these rows
 --     one-file                   a file is the data file of one row of rows alone
 --     data-exactly               a file is accepted, and these rows are shown, exactly when the layout is sized and it is the data file of these rows
+--     accepted-rows              an accepted file is the data file of the rows that it shows
 --     data-refused               a file is refused exactly when it is the data file of no rows
+--     row-shown                  row n is shown, and is q, exactly when the file is the data file of rows of which q is the n-th
 --     row-refused                a row is refused, with zeros beside it, exactly when the file is, or when there is no such row
 -- Assumes nothing.
 use mathlib.Core.Path.{_≡_, refl, sym, ap, subst, _∙_}
@@ -141,11 +143,14 @@ module _ (l : Layout) (s : List ℕ) (bytes : every isByte s ≡ true) where
   abbrev pub NoFile : Type 0
   NoFile = (r : ℕ → Row) → Sized l → DataFile l r s → ⊥
 
-  accepted-file : checkFile l s ≡ Yes → NoFile → ⊥
-  accepted-file e f =
+  pub accepted-rows : checkFile l s ≡ Yes → Sized l × DataFile l (rowAt l s) s
+  accepted-rows e =
       let a = accepted-fine l s e in
       let z = sized l (a .0) in
-      f (rowAt l s) z (fine-exactly l s z bytes (rowAt l s) .0 (a .1, λ i h. refl))
+      (z, fine-exactly l s z bytes (rowAt l s) .0 (a .1, λ i h. refl))
+
+  accepted-file : checkFile l s ≡ Yes → NoFile → ⊥
+  accepted-file e f = let t = accepted-rows e in f (rowAt l s) (t .0) (t .1)
 
   pub data-refused : NoFile ↔ ((x : Refusal) × (checkFile l s ≡ No x))
   data-refused = (λ f. decide f (checkFile l s) refl, λ t r z u. let q : No (t .0) ≡ Yes = sym (t .1) ∙ data-from r z u .0 in clash (cc))
@@ -165,6 +170,27 @@ module _ (l : Layout) (s : List ℕ) (bytes : every isByte s ≡ true) where
       let b = must-told (hasRow l n) (refused 15 0 0) _ q (a .1) in
       let c = then-told (fileFine l s) (says (rowAt l s (n - 1))) q (b .1) in
       (rw (a .0, c .0), b .0)
+
+  said-shown : (n : ℕ) (q : Row) (x : Said Refusal Row) → rowAnswer x ≡ rowAnswer (says q) → x ≡ says q
+  said-shown n q (says p) e = ap (λ (y : RowAnswer). says (y .row)) e
+  said-shown n q (refuses r) e = let y : No r ≡ Yes = ap (λ (y : RowAnswer). y .answer) e in clash (cc)
+
+  shown-to : (n : ℕ) (q : Row) → showRow l s n ≡ rowAnswer (says q) → (r : ℕ → Row) × Sized l × DataFile l r s × (1 ≤ n) × (n ≤ l .rows) × (q ≡ r (n - 1))
+  unfolding showRow
+  shown-to n q e =
+      let b = said-row n q (said-shown n q (sayRow n) e) in
+      let a = accepted-fine l s (b .0) in
+      let t = accepted-rows (b .0) in
+      let k = row-told l n (b .1) in
+      (rowAt l s, t .0, t .1, k .0, k .1, ap (λ (y : RowAnswer). y .row) (sym e ∙ shows l s n (a .0) (a .1) (b .1)))
+
+  shown-from : (n : ℕ) (q : Row) → (r : ℕ → Row) × Sized l × DataFile l r s × (1 ≤ n) × (n ≤ l .rows) × (q ≡ r (n - 1)) → showRow l s n ≡ rowAnswer (says q)
+  shown-from n q (r, z, t, h, k, w) =
+      let f = fine-exactly l s z bytes r .1 t in
+      shows l s n (sized-is l z) (f .0) (has l n h k) ∙ ap (λ (p : Row). rowAnswer (says p)) (f .1 (n - 1) (omega arith) ∙ sym w)
+
+  pub row-shown : (n : ℕ) (q : Row) → showRow l s n ≡ rowAnswer (says q) ↔ ((r : ℕ → Row) × Sized l × DataFile l r s × (1 ≤ n) × (n ≤ l .rows) × (q ≡ r (n - 1)))
+  row-shown n q = (shown-to n q, shown-from n q)
 
   -- there is no row n
   abbrev pub NoRow : ℕ → Type 0

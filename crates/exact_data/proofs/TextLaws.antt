@@ -1,6 +1,7 @@
 -- Files of text, exactly.
 --     line-exactly       a row's line is fine, and says r, exactly when its fields are those of the row
 --     ending-exactly     what may follow the last row
+--     rows-front         lines in a row, the first of them at the front
 --     text-exactly       a file is accepted as text, and its rows are r 0, r 1, .., exactly when it is the text of these rows
 -- Assumes nothing.
 use mathlib.Core.Path.{_≡_, refl, sym, ap, subst, _∙_}

@@ -43,7 +43,7 @@ use Rattle.lines.specs.declared.Dated.{Dated}
 use Rattle.lines.specs.Faults.{valueOf, rateFault}
 use Rattle.lines.specs.Lines.{fault, numberAt, dateAt, timeAt, value, channelsLine, ratesLine, rateLine, dateLine, qualityLine}
 use Rattle.lines.specs.Answers.{channelsOf, countedOf, datedOf, qualityOf}
-use Rattle.lines.proofs.NumberLaws.{Numbered, date-numbered}
+use Rattle.lines.proofs.PlaceLaws.{Ruled, fault-numbered, date-line-ruled}
 
 range-le : (low high : ℕ) (k : Count) → valueOf (inRange low high k) .value ≤ high
 unfolding inRange
@@ -214,9 +214,9 @@ quality-le l = codes-small (qualityLine l) (quality-said l)
 abbrev pub Fine : Dated → Type 0
 Fine d = d .fault .number ≡ 0 → (validDate (d .date) ≡ true) × (validTime (d .time) ≡ true)
 
-fine-dated : (x : Said Fault (Date × Time)) → Numbered x → ((v : Date × Time) → x ≡ says v → (validDate (v .0) ≡ true) × (validTime (v .1) ≡ true)) → Fine (datedOf x)
+fine-dated : (x : Said Fault (Date × Time)) → Ruled x → ((v : Date × Time) → x ≡ says v → (validDate (v .0) ≡ true) × (validTime (v .1) ≡ true)) → Fine (datedOf x)
 fine-dated (says v) n h e = h v refl
-fine-dated (refuses f) n h e = absurd (n .some f refl e)
+fine-dated (refuses f) n h e = absurd (fault-numbered n e)
 
 pub date-valid : (l : List ℕ) → Fine (datedOf (dateLine l))
-date-valid l = fine-dated (dateLine l) (date-numbered l) (date-said l)
+date-valid l = fine-dated (dateLine l) (date-line-ruled l) (date-said l)

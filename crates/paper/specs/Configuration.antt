@@ -1,10 +1,10 @@
--- READ THIS FIRST. What a configuration is and what it shows (here), the data files (Data), a configuration's lines (Lines), their fields (Fields). No reader stands in these four files.
--- demands/proofs/Demands.antt proves that read_config, check and show_row accept exactly these and show exactly this. Not said here: which refusal a file gets that is none of these (config/specs/Config.antt, read from the top).
+-- READ THIS FIRST. What a configuration is and what it shows (here), the data files (Data, and Written for what is written), a configuration's lines (Lines), their fields (Fields). No reader and no writer stands in these five files.
+-- The theorems of crate `demands` (docs/DEMANDS.md) prove that read_config, check and show_row accept exactly these and show exactly this. Not said here: which refusal a file gets that is none of these (config/specs/Config.antt, read from the top).
 use mathlib.Core.Path.{_≡_}
 use mathlib.Core.Logic.{_⊎_}
 use mathlib.Core.List.{List, [], _∷_, _++_}
 use Prim.Native.Nat.{ℕ, zero, suc, _+_, _-_, _*_, _≤_, _<_, max}
-use lib.IntN.{ℤ, pos, _+ℤ_, _*ℤ_}
+use lib.IntN.{pos, _+ℤ_, _*ℤ_}
 use lib.ListN.{length, replicate, take}
 use Rattle.lists.specs.Quoted.{quoted}
 use Rattle.clock.specs.declared.Date.{Date}

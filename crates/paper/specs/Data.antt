@@ -1,4 +1,4 @@
--- WHAT A DATA FILE IS and which rows it has. Read second of the four; no reader stands here.
+-- WHAT A DATA FILE IS and which rows it has. Read second; no reader stands here.
 use mathlib.Core.Path.{_≡_}
 use mathlib.Core.Logic.{_⊎_}
 use mathlib.Core.Bool.{Bool, false, _&&_}

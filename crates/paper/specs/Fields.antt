@@ -1,4 +1,4 @@
--- WHAT A FIELD IS: its characters, and the number, date or word that they say. Read last of the four; no reader stands here.
+-- WHAT A FIELD IS: its characters, and the number, date or word that they say. Read last; no reader stands here.
 -- A character is its byte; `quoted` gives the bytes of a text.
 use mathlib.Core.Path.{_≡_}
 use mathlib.Core.Logic.{_⊎_}
@@ -220,7 +220,7 @@ pub record DateForm (x : Date) (f : List ℕ) : Type 0 where
   pub worth : x ≡ record { day = decimalValue day; month = decimalValue month; year = decimalValue year }
 
 -- a date: such characters that say a day of the calendar
-pub record DateField (x : Date) (f : List ℕ) : Type 0 where
+pub record DateText (x : Date) (f : List ℕ) : Type 0 where
   pub form : DateForm x f
   pub valid : Day x
 
@@ -246,7 +246,7 @@ pub record TimeOfDay (x : Time) : Type 0 where
   pub seconds : x .second ≤ 59
 
 -- a time: such characters that say a moment of a day
-pub record TimeField (x : Time) (f : List ℕ) : Type 0 where
+pub record TimeText (x : Time) (f : List ℕ) : Type 0 where
   pub form : TimeForm x f
   pub valid : TimeOfDay x
 
@@ -263,8 +263,8 @@ kindWord Binary = quoted "binary"
 kindWord Binary32 = quoted "binary32"
 
 -- a kind's word, in any case (so it has 5 to 8 characters)
-abbrev pub KindField : Kind → List ℕ → Type 0
-KindField k f = lowered f ≡ kindWord k
+abbrev pub KindWord : Kind → List ℕ → Type 0
+KindWord k f = lowered f ≡ kindWord k
 
 -- minutes after an h; no h where there are none
 abbrev pub withH : List ℕ → List ℕ

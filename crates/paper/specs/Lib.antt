@@ -1,5 +1,5 @@
 pub mod Configuration
 pub mod Data
+pub mod Written
 pub mod Lines
 pub mod Fields
-pub mod Written

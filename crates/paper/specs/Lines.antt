@@ -1,4 +1,4 @@
--- WHAT EACH LINE OF A CONFIGURATION IS: how many fields it has, and what each of them is. Read third of the four; no reader stands here.
+-- WHAT EACH LINE OF A CONFIGURATION IS: how many fields it has, and what each of them is. Read after the data files; no reader stands here.
 use mathlib.Core.Path.{_≡_}
 use mathlib.Core.Logic.{_⊎_}
 use mathlib.Core.Bool.{Bool, true, false, not}
@@ -8,13 +8,11 @@ use lib.Dec.{eqb}
 use lib.IntN.{ℤ, pos}
 use Rattle.lists.specs.Quoted.{quoted}
 use Rattle.lists.specs.Tables.{cat, every}
-use Rattle.clock.specs.declared.Date.{Date}
-use Rattle.clock.specs.declared.Time.{Time}
 use Rattle.reals.specs.declared.Real.{Real}
 use Rattle.reals.specs.declared.Real.the-variants as real
 use Rattle.model.specs.declared.Kind.{Kind}
 use Rattle.rules.specs.declared.Moment.{Moment}
-use Rattle.paper.specs.Fields.{TextField, isBetween, CountField, CountIn, Lettered, RealField, AnyReal, Limits, DateField, TimeField, KindField, CodeField, XField, QualityField, LeapField}
+use Rattle.paper.specs.Fields.{TextField, isBetween, CountField, CountIn, Lettered, RealField, AnyReal, Limits, DateText, TimeText, KindWord, CodeField, XField, QualityField, LeapField}
 
 -- a line: bytes 32 to 126, and it is P
 pub record Line (P : List ℕ → Type 0) (l : List ℕ) : Type 0 where
@@ -103,14 +101,14 @@ pub record RateLine (sign : Real) (before last : ℕ) (l : List ℕ) : Type 0 wh
 pub record DateLine (m : Moment) (l : List ℕ) : Type 0 where
   pub f : ℕ → List ℕ
   pub fields : Fields 2 f l
-  pub date : DateField (m .date) (f 1)
-  pub time : TimeField (m .time) (f 2)
+  pub date : DateText (m .date) (f 1)
+  pub time : TimeText (m .time) (f 2)
 
 -- 8: the kind
 pub record KindLine (k : Kind) (l : List ℕ) : Type 0 where
   pub f : ℕ → List ℕ
   pub fields : Fields 1 f l
-  pub kind : KindField k (f 1)
+  pub kind : KindWord k (f 1)
 
 -- 9: time multiplier, above zero
 pub record MultiplierLine (l : List ℕ) : Type 0 where

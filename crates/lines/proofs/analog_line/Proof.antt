@@ -1,7 +1,7 @@
 -- `analog_line` meets its contract: each return follows from the checks before it.
 use borrow.Author.Tests.{eq-eqb, ne-eqb}
 use Rattle.lines.specs.Lines.{analogLine}
-use Rattle.lines.proofs.NumberLaws.{names-is, scale-is, limits-is}
+use Rattle.lines.proofs.PlaceLaws.{names-is, scale-is, limits-is}
 use borrow.Author.Needs.{needs}
 use Rattle.lines.proofs.analog_line.Statement.{statement}
 use Rattle.lines.proofs.analog_line.Tie as tie

@@ -1,7 +1,7 @@
 -- `status_line` meets its contract: each return follows from the checks before it.
 use borrow.Author.Tests.{eq-eqb, ne-eqb}
 use Rattle.lines.specs.Lines.{statusLine}
-use Rattle.lines.proofs.NumberLaws.{names-is}
+use Rattle.lines.proofs.PlaceLaws.{names-is}
 use borrow.Author.Needs.{needs}
 use Rattle.lines.proofs.status_line.Statement.{statement}
 use Rattle.lines.proofs.status_line.Tie as tie

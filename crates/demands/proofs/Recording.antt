@@ -1,14 +1,15 @@
--- The recording of the rules and two like it: what its configuration shows, or why it is refused. Each is computed.
---     recording       its bytes, with other lines for the first sample's date and for the time codes
---     recorded        what it shows, by its time code
---     recordings      as it stands in the rules; with a date that there is not; with a time code below zero of less than an hour
+-- The recording that the rules print whole: its configuration is accepted, and shows what its lines say. T10 is a line of it.
+--     recording-accepted          it is accepted, and shows these values
+--     recording-configuration     so there is a configuration, told without a reader
+--     recording-refused           T10: with 29/02/1900 as its first date it is refused with 6 at line 8, field 1
+--     recording-code              with the time code -0h30 it shows 30 minutes below zero
 -- Assumes nothing.
 use mathlib.Core.Path.{_≡_, refl}
 use mathlib.Core.Bool.{false}
 use mathlib.Core.List.{List, _∷_, _++_}
 use Prim.Native.Nat.{ℕ}
 use Prim.Native.String.{String}
-use lib.IntN.{ℤ, pos, negℤ}
+use lib.IntN.{pos, negℤ}
 use lib.ListN.{replicate}
 use Rattle.lists.specs.Quoted.{quoted}
 use Rattle.text.specs.Lines.{scanLine, scanLastLine}
@@ -31,16 +32,22 @@ use Rattle.model.specs.declared.Answer.the-variants.{Yes, No}
 use Rattle.model.specs.Refusals.{refused}
 use Rattle.rules.specs.declared.Config.{Config}
 use Rattle.config.specs.Config.{noConfig, configuration, readConfig}
+use Rattle.paper.specs.Configuration.{Configuration}
+use Rattle.exact_config.proofs.ExactLaws.{config-exactly}
 
--- the recording of the rules, with this line for the first sample's date and this one for the codes
-abbrev pub recording : String → String → List ℕ
-recording first codes =
+-- the configuration, with this first date and these time codes
+abbrev pub recordingWith : String → String → List ℕ
+recordingWith first codes =
     quoted "Bench 2,R7,2013\r\n2,1A,1D\r\n1,Ia,A,,A,0.5,0,0,-2048,2047,400,1,S\r\n1,Trip,,,0\r\n50\r\n1\r\n1000,2\r\n"
-    ++ (quoted first ++ (quoted "\r\n03/02/2024,09:15:00.001000\r\nASCII\r\n1\r\n" ++ (quoted codes ++ quoted "\r\n0,3\r\n")))
+    ++ (quoted first ++ (quoted ",09:15:00.000000\r\n03/02/2024,09:15:00.001000\r\nASCII\r\n1\r\n" ++ (quoted codes ++ quoted "\r\n0,3\r\n")))
 
--- what it shows with this time code
-abbrev pub recorded : ℤ → Config
-recorded code =
+-- as the rules print it
+abbrev pub recording : List ℕ
+recording = recordingWith "03/02/2024" "0,0"
+
+-- what it shows
+abbrev pub recordingShows : Config
+recordingShows =
     record {
       analogs = 1;
       statuses = 1;
@@ -51,17 +58,17 @@ recorded code =
       trigger = record { date = record { day = 3; month = 2; year = 2024 }; time = record { hour = 9; minute = 15; second = 0; nanosecond = 1_000_000 } };
       pretrigger = record { seconds = pos 0; nanoseconds = 1_000_000 };
       kind = Ascii;
-      code = code;
+      code = pos 0;
       x = false;
       local = pos 0;
       quality = 0;
       leap = 3;
     }
 
-pub recordings :
-    (readConfig (recording "03/02/2024,09:15:00.000000" "0,0") ≡ record { answer = Yes; config = recorded (pos 0) })
-    × (readConfig (recording "29/02/1900,09:15:00.000000" "0,0") ≡ record { answer = No (refused 6 8 1); config = noConfig })
-    × (readConfig (recording "03/02/2024,09:15:00.000000" "-0h30,0") ≡ record { answer = Yes; config = recorded (negℤ (pos 30)) })
+computed :
+    (readConfig recording ≡ record { answer = Yes; config = recordingShows })
+    × (readConfig (recordingWith "29/02/1900" "0,0") ≡ record { answer = No (refused 6 8 1); config = noConfig })
+    × (readConfig (recordingWith "03/02/2024" "-0h30,0") .config .code ≡ negℤ (pos 30))
 unfolding readConfig configuration scanLine scanLastLine fieldCount afterFields fieldAt lengthIn isDigit numberOf readCount signLength hasMinus
     firstLine channelsLine names scale limits analogLine statusLine frequencyLine ratesLine rateLine dateLine kindLine multiplierLine codesLine qualityLine
     textFault yearFault indexFault realFault frequencyFault aboveFault inRange readCountIn readLettered readYear readOneOf digitValue readDigitOf readState readSide readQuality readLeap small readKind
@@ -70,4 +77,17 @@ unfolding readConfig configuration scanLine scanLastLine fieldCount afterFields 
     readDate dateOf fits fitsPlace validDate within monthDays leapYear shortMonth digitsAt readTime timeForm validTime timeOf fractionOf
     preTrigger spanOf secondNumber dayNumber daysOfYears daysOfMonths secondOfDay
     readCode readLocalCode codeIn codeOf smallX hoursAndMinutes hoursOf minutesOf signedMinutes
-recordings = (refl, refl, refl)
+computed = (refl, refl, refl)
+
+pub recording-accepted : readConfig recording ≡ record { answer = Yes; config = recordingShows }
+recording-accepted = computed .0
+
+-- DEMAND 2. There is a configuration, and it shows all this
+pub recording-configuration : Configuration recording recordingShows
+recording-configuration = config-exactly recording recordingShows .0 recording-accepted
+
+pub recording-refused : readConfig (recordingWith "29/02/1900" "0,0") ≡ record { answer = No (refused 6 8 1); config = noConfig }
+recording-refused = computed .1
+
+pub recording-code : readConfig (recordingWith "03/02/2024" "-0h30,0") .config .code ≡ negℤ (pos 30)
+recording-code = computed .2

@@ -1,0 +1,7 @@
+-- The demands on configurations, as theorems; crate `paper` tells what a `Configuration` is, and crate `exact_config` proves them.
+--     config-exactly     demand 2: the bytes s are accepted and show c exactly when they are a configuration that shows c
+--     config-refused     demands 1 and 2: they are refused, with zeros for all that is shown, exactly when they are none
+--     one-config         demand 2: a configuration shows one thing
+--     sized-config       demand 2: its layout is within the sizes of the house, so that no data call refuses it with 10
+-- Assumes nothing.
+pub use Rattle.exact_config.proofs.ExactLaws.{config-exactly, config-refused, one-config, sized-config}

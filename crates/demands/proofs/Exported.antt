@@ -1,0 +1,120 @@
+-- Demand 2 on the exported calls: what zl_config, zl_check and zl_row show is what the bytes are (crate `paper`), as places.
+--     config-shown     zl_config shows places exactly when the bytes are a configuration, there is room, and these are its places
+--     file-taken       zl_check says yes exactly when the kind has a number and the bytes are a data file of some rows
+--     place-shown      zl_row shows places exactly when the bytes are the data file of rows, there is such a row and room, and these are its places
+-- Assumes nothing.
+use mathlib.Core.Path.{_≡_, refl, ap, _∙_}
+use mathlib.Core.Logic.{_↔_}
+use mathlib.Core.Bool.{true}
+use mathlib.Core.List.{List}
+use Prim.Native.Nat.{ℕ, _-_, _≤_}
+use borrow.Author.Tests.{leb-true, le-leb}
+use lib.Dec.{leb}
+use lib.IntN.{ℤ}
+use Rattle.lists.specs.Said.{says, _>>=_, _>>_}
+use Rattle.lists.specs.Tables.{every}
+use Rattle.lists.proofs.Cases.{clash}
+use Rattle.lists.proofs.SaidLaws.{must-told, bind-told}
+use Rattle.words.specs.Words.{isByte}
+use Rattle.model.specs.declared.Kind.{Kind}
+use Rattle.model.specs.declared.KindNo.{KindNo}
+use Rattle.model.specs.declared.KindNo.the-variants as number
+use Rattle.model.specs.declared.Row.{Row}
+use Rattle.model.specs.declared.Answer.{Answer}
+use Rattle.model.specs.declared.Answer.the-variants.{Yes, No}
+use Rattle.model.specs.Kinds.{kindOf}
+use Rattle.model.specs.Layouts.{Sized}
+use Rattle.model.specs.Refusals.{refused}
+use Rattle.rules.specs.declared.Config.{Config}
+use Rattle.config.specs.declared.ConfigAnswer.{ConfigAnswer}
+use Rattle.config.specs.Config.{readConfig}
+use Rattle.data.specs.declared.RowAnswer.{RowAnswer}
+use Rattle.data.specs.Files.{rowAt, checkFile, rowAnswer, showRow}
+use Rattle.places.specs.Rows.{placesOf, rowPlaces}
+use Rattle.places.specs.Configs.{configPlaces}
+use Rattle.zagalume.specs.Calls.{kindSaid, layoutBy, accepted, configSaid, rowSaid, placed, configCall, checkCall, rowIn, rowCall}
+use Rattle.paper.specs.Configuration.{Configuration}
+use Rattle.paper.specs.Data.{DataFile}
+use Rattle.exact_config.proofs.ExactLaws.{config-exactly}
+use Rattle.exact_data.proofs.FileLaws.{data-exactly, row-shown, accepted-rows}
+
+-- a yes, and what stands beside it
+yes-said : {A : Type 0} (x : Answer) (a b : A) → (accepted x >> says a) ≡ says b → (x ≡ Yes) × (a ≡ b)
+yes-said Yes a b e = (refl, cc)
+yes-said (No r) a b e = clash (cc)
+
+config-said : (a : ConfigAnswer) (c : Config) → configSaid a ≡ says c → a ≡ record { answer = Yes; config = c }
+config-said a c e = let w = yes-said (a .answer) (a .config) c e in rw (← w .0, ← w .1)
+
+row-said : (a : RowAnswer) (r : Row) → rowSaid a ≡ says r → a ≡ rowAnswer (says r)
+row-said a r e = let w = yes-said (a .answer) (a .row) r e in rw (← w .0, ← w .1)
+
+kind-said : (n : KindNo) (k : Kind) → kindSaid n ≡ says k → n ≡ number.Is k
+kind-said (number.Is m) k e = cc
+kind-said number.None k e = clash (cc)
+
+-- places that are shown
+room-said : (count : ℕ) (zs ys : List ℤ) (room : ℕ) → placed count zs room ≡ says ys → (count ≤ room) × (ys ≡ zs)
+room-said count zs ys room e = let t = must-told (leb count room) (refused 17 0 0) (says zs) ys e in (leb-true count room (t .0), cc (t .1))
+
+config-shown-to : (s : List ℕ) (room : ℕ) (zs : List ℤ) → configCall s room ≡ says zs → (c : Config) × Configuration s c × (34 ≤ room) × (zs ≡ configPlaces c)
+unfolding configCall
+config-shown-to s room zs e =
+    let b = bind-told (configSaid (readConfig s)) (λ c. placed 34 (configPlaces c) room) zs e in
+    let w = room-said 34 (configPlaces (b .0)) zs room (b .2) in
+    (b .0, config-exactly s (b .0) .0 (config-said (readConfig s) (b .0) (b .1)), w .0, w .1)
+
+config-shown-from : (s : List ℕ) (room : ℕ) (zs : List ℤ) → (c : Config) × Configuration s c × (34 ≤ room) × (zs ≡ configPlaces c) → configCall s room ≡ says zs
+unfolding configCall
+config-shown-from s room zs (c, w, h, q) = rw (config-exactly s c .1 w, le-leb 34 room h, q)
+
+-- DEMAND 2. zl_config
+pub config-shown : (s : List ℕ) (room : ℕ) (zs : List ℤ) → configCall s room ≡ says zs ↔ ((c : Config) × Configuration s c × (34 ≤ room) × (zs ≡ configPlaces c))
+config-shown s room zs = (config-shown-to s room zs, config-shown-from s room zs)
+
+-- a data file, handed in as bytes
+module _ (a d rows kind : ℕ) (s : List ℕ) (bytes : every isByte s ≡ true) where
+  -- the kind's number is that of k, and the bytes are the data file of rows r in that kind
+  abbrev pub FileHere : Kind → (ℕ → Row) → Type 0
+  FileHere k r = (kindOf kind ≡ number.Is k) × Sized (layoutBy a d rows k) × DataFile (layoutBy a d rows k) r s
+
+  file-to : checkCall a d rows kind s ≡ says 0 → (k : Kind) × (r : ℕ → Row) × FileHere k r
+  unfolding checkCall
+  file-to e =
+      let b = bind-told (kindSaid (kindOf kind)) (λ k. accepted (checkFile (layoutBy a d rows k) s) >> says 0) 0 e in
+      let l = layoutBy a d rows (b .0) in
+      let c = yes-said (checkFile l s) 0 0 (b .2) .0 in
+      let t = accepted-rows l s bytes c in
+      (b .0, rowAt l s, (kind-said (kindOf kind) (b .0) (b .1), t .0, t .1))
+
+  file-from : (k : Kind) × (r : ℕ → Row) × FileHere k r → checkCall a d rows kind s ≡ says 0
+  unfolding checkCall
+  file-from (k, r, (e, z, t)) = rw (e, data-exactly (layoutBy a d rows k) s bytes r .1 (z, t) .0)
+
+  -- DEMAND 2. zl_check
+  pub file-taken : checkCall a d rows kind s ≡ says 0 ↔ ((k : Kind) × (r : ℕ → Row) × FileHere k r)
+  file-taken = (file-to, file-from)
+
+  -- places zs are those of row n of such a file, and there is room for them
+  abbrev pub RowHere : ℕ → ℕ → List ℤ → Type 0
+  RowHere n room zs = (k : Kind) × (r : ℕ → Row) × FileHere k r × (1 ≤ n) × (n ≤ rows) × (placesOf (layoutBy a d rows k) ≤ room) × (zs ≡ rowPlaces (layoutBy a d rows k) (r (n - 1)))
+
+  place-to : (n room : ℕ) (zs : List ℤ) → rowCall a d rows kind s n room ≡ says zs → RowHere n room zs
+  unfolding rowCall rowIn
+  place-to n room zs e =
+      let b = bind-told (kindSaid (kindOf kind)) (λ k. rowIn (layoutBy a d rows k) s n room) zs e in
+      let l = layoutBy a d rows (b .0) in
+      let c = bind-told (rowSaid (showRow l s n)) (λ r. placed (placesOf l) (rowPlaces l r) room) zs (b .2) in
+      let w = room-said (placesOf l) (rowPlaces l (c .0)) zs room (c .2) in
+      let (r, z, t, h, k, q) = row-shown l s bytes n (c .0) .0 (row-said (showRow l s n) (c .0) (c .1)) in
+      (b .0, r, (kind-said (kindOf kind) (b .0) (b .1), z, t), h, k, w .0, w .1 ∙ ap (rowPlaces l) q)
+
+  place-from : (n room : ℕ) (zs : List ℤ) → RowHere n room zs → rowCall a d rows kind s n room ≡ says zs
+  unfolding rowCall rowIn
+  place-from n room zs (k, r, (e, z, t), h, m, w, q) =
+      let l = layoutBy a d rows k in
+      rw (e, row-shown l s bytes n (r (n - 1)) .1 (r, z, t, h, m, refl), le-leb (placesOf l) room w, q)
+
+  -- DEMAND 2. zl_row
+  pub place-shown : (n room : ℕ) (zs : List ℤ) → rowCall a d rows kind s n room ≡ says zs ↔ RowHere n room zs
+  place-shown n room zs = (place-to n room zs, place-from n room zs)

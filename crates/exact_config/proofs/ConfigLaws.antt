@@ -1,6 +1,7 @@
 -- The readers of a configuration, exactly: what each takes from the bytes, and what it says of them.
 --     Reads                         a reader says a of the bytes s and leaves u exactly where R a s u
 --     reads-as                      the same in other words
+--     said-parts, in-line-told      what is said, and the place after it
 --     done-reads, holds-reads       what takes nothing
 --     bind-reads                    one reader after another
 --     line-reads, last-reads        a line by its rule; the last line, which may end with the file
@@ -46,7 +47,7 @@ reads-as h same =
     record { exactly = λ n s a u. (λ e. same a s u .0 (h .exactly n s a u .0 e), λ g. h .exactly n s a u .1 (same a s u .1 g)) }
 
 -- what was said, and where
-said-parts : {A : Type 0} (a b : A) (p q : Place) → _≡_ {A = Said Refusal (A × Place)} (says (a, p)) (says (b, q)) → (a ≡ b) × (p ≡ q)
+pub said-parts : {A : Type 0} (a b : A) (p q : Place) → _≡_ {A = Said Refusal (A × Place)} (says (a, p)) (says (b, q)) → (a ≡ b) × (p ≡ q)
 said-parts {A} a b p q e =
     let w : _≡_ {A = A × Place} (a, p) (b, q) = cc in
     (ap (λ (z : A × Place). z .0) w, ap (λ (z : A × Place). z .1) w)
@@ -126,12 +127,12 @@ last-scanned l e u h k (inl q) =
 last-scanned l e u h k (inr (q, z)) =
     (length l, rw (q, z, append-nil, ne-eqb (length l) 0 (λ z. omega arith), bytes-end l h), rw (q, z, append-nil) (drop-length l))
 
+pub in-line-told : {A : Type 0} (n : ℕ) (p q : Place) (a : A) (x : Said Fault A) → inLine n p x ≡ says (a, q) → (x ≡ says a) × (p ≡ q)
+in-line-told n p q a (says b) e = let (v, w) = said-parts b a p q e in (ap says v, w)
+in-line-told n p q a (refuses f) e = clash (cc)
+
 -- a line of which a rule says a exactly where it is P a
 module _ {A : Type 0} (rule : List ℕ → Said Fault A) (P : A → List ℕ → Type 0) (exactly : (a : A) (l : List ℕ) → rule l ≡ says a ↔ P a l) where
-  in-line-told : (n : ℕ) (p q : Place) (a : A) (x : Said Fault A) → inLine n p x ≡ says (a, q) → (x ≡ says a) × (p ≡ q)
-  in-line-told n p q a (says b) e = let (v, w) = said-parts b a p q e in (ap says v, w)
-  in-line-told n p q a (refuses f) e = clash (cc)
-
   scanned-told : (n : ℕ) (s : List ℕ) (a : A) (k : ℕ) (u : List ℕ) (f : Scanned) → scanned rule (n, s) f ≡ says (a, (k, u))
       → (m : ℕ) × (t : ℕ) × (f ≡ scan.Line m t) × P a (take m s) × (drop t s ≡ u)
   scanned-told n s a k u (scan.Line m t) e =

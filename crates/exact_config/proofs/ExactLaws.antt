@@ -1,6 +1,8 @@
 -- THE THEOREMS on configurations: what is accepted, and shows what, is what crate `paper` tells; nothing else is.
 --     last-is              the last of some last rows, told by how they end
+--     quality-some         a line of quality and leap second code is not empty
 --     shown-is             what is shown, part by part
+--     moment               the moment that a date line says
 --     config-reads         what is read whole is a configuration, and the other way round
 --     config-exactly       the bytes s are accepted and show c exactly when they are a configuration that shows c
 --     config-refused       they are refused, with zeros beside the refusal, exactly when they are none
@@ -68,8 +70,7 @@ pre-is f t k l p h g =
     pretrigger-exactly f t (day-exactly (f .date) .1 (h .date .valid)) (time-valid (f .time) (h .f 2) (h .time))
     (day-exactly (t .date) .1 (g .date .valid)) (time-valid (t .time) (g .f 2) (g .time)) p
 
--- a line of quality and leap second code is not empty
-quality-some : (q p : ℕ) (l : List ℕ) → QualityLine q p l → 1 ≤ length l
+pub quality-some : (q p : ℕ) (l : List ℕ) → QualityLine q p l → 1 ≤ length l
 quality-some q p l w = let e = ap length (w .fields .joined) in omega (arith, simp length-append at e)
 
 -- what is shown
@@ -102,7 +103,7 @@ end-from e (inl q) = inr (q, refl)
 end-from e (inr q) = inl q
 
 -- a date line's moment
-abbrev moment : Date × Time → Moment
+abbrev pub moment : Date × Time → Moment
 moment v = record { date = v .0; time = v .1 }
 
 -- what the lines show together

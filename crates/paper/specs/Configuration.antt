@@ -1,5 +1,5 @@
--- READ THIS FIRST. What a configuration is and what it shows (here), the data files (Data, and Written for what is written), a configuration's lines (Lines), their fields (Fields). No reader and no writer stands in these five files.
--- The theorems of crate `demands` (docs/DEMANDS.md) prove that read_config, check and show_row accept exactly these and show exactly this. Not said here: which refusal a file gets that is none of these (config/specs/Config.antt, read from the top).
+-- READ THIS FIRST. What a configuration is and what it shows (here), the data files (Data, and Written for what is written), a configuration's lines (Lines), their fields (Fields). No reader and no writer stands in these files.
+-- The theorems of crate `demands` (docs/DEMANDS.md) prove that read_config, check and show_row accept exactly these and show exactly this. Not said here: at which line a file that is no configuration first fails (Order), and which refusal a file gets (config/specs/Config.antt, read from the top).
 use mathlib.Core.Path.{_≡_}
 use mathlib.Core.Logic.{_⊎_}
 use mathlib.Core.List.{List, [], _∷_, _++_}

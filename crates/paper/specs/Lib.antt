@@ -3,3 +3,4 @@ pub mod Data
 pub mod Written
 pub mod Lines
 pub mod Fields
+pub mod Order

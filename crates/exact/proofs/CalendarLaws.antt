@@ -25,7 +25,7 @@ use Rattle.clock.specs.Spans.{secondNumber, preTrigger, inNanoseconds}
 use Rattle.clock.proofs.DateLaws.{date-bounds, years-next}
 use Rattle.clock.proofs.SpanLaws.{pre-exact, pre-below}
 use Rattle.rules.specs.declared.Moment.{Moment}
-use Rattle.paper.specs.Fields.{monthDays}
+use Rattle.paper.specs.Fields.{monthLengths}
 use Rattle.paper.specs.Configuration.{sum, daysOfYears, dayNumber, instant, PreTrigger}
 use Rattle.exact.proofs.ClockLaws.{month-is}
 
@@ -33,12 +33,12 @@ sum-last : (l : List ℕ) (n : ℕ) → sum (l ++ n ∷ []) ≡ sum l + n
 sum-last [] n = omega arith
 sum-last (m ∷ l) n = omega (arith, sum-last l n)
 
-months-sum : (y n : ℕ) → n ≤ 12 → sum (take n (monthDays y)) ≡ daysOfMonths y n
+months-sum : (y n : ℕ) → n ≤ 12 → sum (take n (monthLengths y)) ≡ daysOfMonths y n
 unfolding daysOfMonths
 months-sum y zero h = refl
 months-sum y (suc n) h =
     let e : n + 1 ≡ suc n = add-one n in
-    ap sum (take-suc (monthDays y) n 0 (omega arith)) ∙ sum-last (take n (monthDays y)) _
+    ap sum (take-suc (monthLengths y) n 0 (omega arith)) ∙ sum-last (take n (monthLengths y)) _
     ∙ rw (months-sum y n (omega arith), month-is y n (omega arith), e)
 
 years-none : 0 ≡ clock.daysOfYears 0

@@ -12,7 +12,7 @@ use Rattle.clock.specs.declared.Span.{Span}
 use Rattle.reals.specs.declared.Real.{Real}
 use Rattle.rules.specs.declared.Moment.{Moment}
 use Rattle.rules.specs.declared.Config.{Config}
-use Rattle.paper.specs.Fields.{monthDays}
+use Rattle.paper.specs.Fields.{monthLengths}
 use Rattle.paper.specs.Lines.{Line, ended, StationLine, ChannelsLine, AnalogLine, StatusLine, FrequencyLine, RatesLine, rateSign, RateLine, DateLine, KindLine, MultiplierLine, CodesLine, QualityLine}
 
 -- t is m lines, each with its CR LF, the first of them P of i, the next P of i + 1, ..
@@ -33,11 +33,11 @@ sum (n ∷ l) = n + sum l
 -- the days of the years 1 to y
 unfoldable pub daysOfYears : ℕ → ℕ
 daysOfYears zero = 0
-daysOfYears (suc y) = daysOfYears y + sum (monthDays (suc y))
+daysOfYears (suc y) = daysOfYears y + sum (monthLengths (suc y))
 
 -- the number of a day: those of the years before, of the months before, and the day itself
 unfoldable pub dayNumber : Date → ℕ
-dayNumber x = daysOfYears (x .year - 1) + sum (take (x .month - 1) (monthDays (x .year))) + x .day
+dayNumber x = daysOfYears (x .year - 1) + sum (take (x .month - 1) (monthLengths (x .year))) + x .day
 
 -- a moment in nanoseconds: 24 hours of 60 minutes of 60 seconds a day
 unfoldable pub instant : Moment → ℕ

@@ -74,8 +74,8 @@ abbrev pub TwosComplement : ℕ → ℕ → ℤ → Type 0
 TwosComplement w v z = ((pos v ≡ z) × (v < 256 ^ w / 2)) ⊎ ((pos v ≡ z +ℤ pos (256 ^ w)) × (256 ^ w / 2 ≤ v))
 
 -- how many words hold the statuses: D / 16 rounded up
-abbrev pub words : Layout → ℕ
-words l = (l .statuses + 15) / 16
+abbrev pub wordCount : Layout → ℕ
+wordCount l = (l .statuses + 15) / 16
 
 -- where the samples end and the status words begin
 abbrev pub samplesEnd : Layout → ℕ
@@ -83,7 +83,7 @@ samplesEnd l = 8 + l .analogs * widthOf (l .kind)
 
 -- how many bytes a row has: number and timestamp, samples, status words
 abbrev pub rowSize : Layout → ℕ
-rowSize l = samplesEnd l + 2 * words l
+rowSize l = samplesEnd l + 2 * wordCount l
 
 -- bit k of v is on
 abbrev pub isOn : ℕ → ℕ → Bool
@@ -99,7 +99,7 @@ pub record BinaryRow (l : Layout) (n : ℕ) (r : Row) (b : List ℕ) : Type 0 wh
   pub number : lowFirst (part 0 4 b) ≡ n
   pub time : lowFirst (part 4 8 b) ≡ r .time
   pub samples : (i : ℕ) → i < l .analogs → TwosComplement (widthOf (l .kind)) (lowFirst (part (8 + i * widthOf (l .kind)) (8 + i * widthOf (l .kind) + widthOf (l .kind)) b)) (sampleOf r i)
-  pub statuses : (i : ℕ) → i < 16 * words l → isOn (i % 16) (statusWord l (i / 16) b) ≡ (ltb i (l .statuses) && statusOf r i)
+  pub statuses : (i : ℕ) → i < 16 * wordCount l → isOn (i % 16) (statusWord l (i / 16) b) ≡ (ltb i (l .statuses) && statusOf r i)
   pub beyond : trimmed l r ≡ r
 
 -- a file of a binary kind whose rows are r 0, r 1, ..: their bytes, and nothing else

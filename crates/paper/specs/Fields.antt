@@ -199,14 +199,14 @@ abbrev pub february : ℕ → ℕ
 february y = if eqb (y % 400) 0 then 29 else if eqb (y % 100) 0 then 28 else if eqb (y % 4) 0 then 29 else 28
 
 -- the days of a year's months
-abbrev pub monthDays : ℕ → List ℕ
-monthDays y = 31 ∷ february y ∷ 31 ∷ 30 ∷ 31 ∷ 30 ∷ 31 ∷ 31 ∷ 30 ∷ 31 ∷ 30 ∷ 31 ∷ []
+abbrev pub monthLengths : ℕ → List ℕ
+monthLengths y = 31 ∷ february y ∷ 31 ∷ 30 ∷ 31 ∷ 30 ∷ 31 ∷ 31 ∷ 30 ∷ 31 ∷ 30 ∷ 31 ∷ []
 
 -- a day of the Gregorian calendar, in the years 1900 to 9999
 pub record Day (x : Date) : Type 0 where
   pub years : (1900 ≤ x .year) × (x .year ≤ 9999)
   pub months : (1 ≤ x .month) × (x .month ≤ 12)
-  pub days : (1 ≤ x .day) × (x .day ≤ getD (monthDays (x .year)) (x .month - 1) 0)
+  pub days : (1 ≤ x .day) × (x .day ≤ getD (monthLengths (x .year)) (x .month - 1) 0)
 
 -- day, month and year in 2, 2 and 4 digits with strokes between them; they say x
 pub record DateForm (x : Date) (f : List ℕ) : Type 0 where

@@ -80,23 +80,23 @@ RowsAre l r s = (i : ℕ) → i < l .rows → rowAt l s i ≡ r i
 
 -- a file of a sized layout
 module _ (l : Layout) (s : List ℕ) (size : Sized l) (bytes : every isByte s ≡ true) where
+  -- by what a check and a reader of the kind say
+  fine-by : (r : ℕ → Row) (check : Said Refusal (Unit {0})) (row : ℕ → Row) (F : Type 0) → ((check ≡ says tt) × ((i : ℕ) → i < l .rows → row i ≡ r i)) ↔ F
+      → fileFine l s ≡ check → ((i : ℕ) → rowAt l s i ≡ row i) → DataFile l r s ↔ F → ((fileFine l s ≡ says tt) × RowsAre l r s) ↔ DataFile l r s
+  fine-by r check row F a f g d =
+      (λ x. d .1 (a .0 (sym f ∙ x .0, λ i h. sym (g i) ∙ x .1 i h)), λ t. let x = a .1 (d .0 t) in (f ∙ x .0, λ i h. g i ∙ x .1 i h))
+
   fine-text : (r : ℕ → Row) → l .kind ≡ Ascii → ((fileFine l s ≡ says tt) × RowsAre l r s) ↔ DataFile l r s
   unfolding fileFine rowAt
   fine-text r e =
-      let a = text-exactly l r s in
-      let f = text-kind (l .kind) (checkText l s) (checkBinary l s) e in
-      let g : (i : ℕ) → rowAt l s i ≡ textRow l i s = λ i. text-kind (l .kind) (textRow l i s) (binaryRow l i s) e in
-      let d = as-text l r s (l .kind) e in
-      (λ x. d .1 (a .0 (sym f ∙ x .0, λ i h. sym (g i) ∙ x .1 i h)), λ t. let x = a .1 (d .0 t) in (f ∙ x .0, λ i h. g i ∙ x .1 i h))
+      fine-by r (checkText l s) (λ i. textRow l i s) (TextFile l r s) (text-exactly l r s)
+      (text-kind (l .kind) (checkText l s) (checkBinary l s) e) (λ i. text-kind (l .kind) (textRow l i s) (binaryRow l i s) e) (as-text l r s (l .kind) e)
 
   fine-binary : (r : ℕ → Row) → (l .kind ≡ Ascii → ⊥) → ((fileFine l s ≡ says tt) × RowsAre l r s) ↔ DataFile l r s
   unfolding fileFine rowAt
   fine-binary r e =
-      let a = binary-exactly l r s size bytes in
-      let f = binary-kind (l .kind) (checkText l s) (checkBinary l s) e in
-      let g : (i : ℕ) → rowAt l s i ≡ binaryRow l i s = λ i. binary-kind (l .kind) (textRow l i s) (binaryRow l i s) e in
-      let d = as-binary l r s (l .kind) e in
-      (λ x. d .1 (a .0 (sym f ∙ x .0, λ i h. sym (g i) ∙ x .1 i h)), λ t. let x = a .1 (d .0 t) in (f ∙ x .0, λ i h. g i ∙ x .1 i h))
+      fine-by r (checkBinary l s) (λ i. binaryRow l i s) (BinaryFile l r s) (binary-exactly l r s size bytes)
+      (binary-kind (l .kind) (checkText l s) (checkBinary l s) e) (λ i. binary-kind (l .kind) (textRow l i s) (binaryRow l i s) e) (as-binary l r s (l .kind) e)
 
   pub fine-exactly : (r : ℕ → Row) → ((fileFine l s ≡ says tt) × RowsAre l r s) ↔ DataFile l r s
   fine-exactly r = by-kind (l .kind) (fine-text r) (fine-binary r)

@@ -139,13 +139,13 @@ refused-unchanged = (
 )
 
 -- what a row's answer, and a configuration's, says of the rule that gave it
-row-refused : (x : Said Refusal Row) (r : Refusal) → rowAnswer x .answer ≡ No r → x ≡ refuses r
-row-refused (says q) r e = cc
-row-refused (refuses q) r e = cc
+row-no : (x : Said Refusal Row) (r : Refusal) → rowAnswer x .answer ≡ No r → x ≡ refuses r
+row-no (says q) r e = cc
+row-no (refuses q) r e = cc
 
-config-refused : (x : Said Refusal Config) (r : Refusal) → configAnswer x .answer ≡ No r → x ≡ refuses r
-config-refused (says c) r e = cc
-config-refused (refuses q) r e = cc
+config-no : (x : Said Refusal Config) (r : Refusal) → configAnswer x .answer ≡ No r → x ≡ refuses r
+config-no (says c) r e = cc
+config-no (refuses q) r e = cc
 
 -- what showing row n says
 abbrev shows : Layout → List ℕ → ℕ → Said Refusal Row
@@ -153,11 +153,11 @@ shows l s n = must (isSized l) (refused 10 0 0) >> (must (hasRow l n) (refused 1
 
 show-zeros : (l : Layout) (s : List ℕ) (n : ℕ) (r : Refusal) → showRow l s n .answer ≡ No r → showRow l s n .row ≡ zeroRow
 unfolding showRow
-show-zeros l s n r e = rw (row-refused (shows l s n) r e)
+show-zeros l s n r e = rw (row-no (shows l s n) r e)
 
 config-zeros : (s : List ℕ) (r : Refusal) → readConfig s .answer ≡ No r → readConfig s .config ≡ noConfig
 unfolding readConfig
-config-zeros s r e = rw (config-refused (saidOf (configuration (1, s))) r e)
+config-zeros s r e = rw (config-no (saidOf (configuration (1, s))) r e)
 
 -- the answer of an exported call that refuses
 abbrev refusal : Refusal → «zl_answer»

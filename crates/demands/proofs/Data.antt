@@ -43,7 +43,7 @@ use Rattle.paper.specs.Data.{TextFile, DataFile}
 use Rattle.paper.specs.Written.{Fitting, Stands, EndingOf, PlainText, Restored, AllInRange, FirstOutside}
 pub use Rattle.exact_data.proofs.FileLaws.{data-exactly, row-shown, data-refused, row-refused, one-file}
 use Rattle.exact_data.proofs.StandLaws.{fitting-exactly, row-stands, rows-stand, bytes-stand}
-use Rattle.exact_data.proofs.PlainLaws as plain
+use Rattle.exact_data.proofs.PlainLaws.{plain-written}
 use Rattle.exact_data.proofs.ChangeLaws.{none-first, one-first, new-file, new-said, back-said, restored, told}
 
 -- a row that was written can be written
@@ -187,4 +187,4 @@ module _ (l : Layout) (r : ℕ → Row) (s : List ℕ) (k : Kind) (room : ℕ) (
 
 -- DEMAND 3. There is one plain text with given rows
 pub plain-only : (l : Layout) (r : ℕ → Row) (s u : List ℕ) → TextFile l r s → PlainText l s → TextFile l r u → PlainText l u → s ≡ u
-plain-only l r s u t p v q = plain.plain-only l r s t p ∙ sym (plain.plain-only l r u v q)
+plain-only l r s u t p v q = plain-written l r s t p ∙ sym (plain-written l r u v q)

@@ -158,14 +158,14 @@ text-rows l s n (suc m) h =
     only-bind (PlacedTo 16) (checkRow l n s) (λ taken. texts.checkRows l (drop taken s) (n + 1) m) (text-row n h l s)
     (λ taken e. text-rows l (drop taken s) (n + 1) m (omega arith))
 
-by-kind : (k : Kind) (x y : Said Refusal (Unit {0})) → RefusesOnly (PlacedTo 16) x → RefusesOnly (PlacedTo 16) y → RefusesOnly (PlacedTo 16) (byKind k x y)
-by-kind Ascii x y p q = p
-by-kind Binary x y p q = q
-by-kind Binary32 x y p q = q
+kind-placed : (k : Kind) (x y : Said Refusal (Unit {0})) → RefusesOnly (PlacedTo 16) x → RefusesOnly (PlacedTo 16) y → RefusesOnly (PlacedTo 16) (byKind k x y)
+kind-placed Ascii x y p q = p
+kind-placed Binary x y p q = q
+kind-placed Binary32 x y p q = q
 
 pub file-placed : (l : Layout) (s : List ℕ) → RefusesOnly (PlacedTo 16) (fileFine l s)
 unfolding fileFine checkText
-file-placed l s = by-kind (l .kind) (checkText l s) (checkBinary l s) (text-rows l s 1 (l .rows) (omega arith)) (binary-placed l s)
+file-placed l s = kind-placed (l .kind) (checkText l s) (checkBinary l s) (text-rows l s 1 (l .rows) (omega arith)) (binary-placed l s)
 
 pub fits-placed : (l : Layout) (r : ℕ → Row) (i m : ℕ) → RefusesOnly (PlacedTo 16) (fitRows l r i m)
 unfolding fitRows

@@ -32,10 +32,8 @@ use Rattle.reals.specs.declared.Limit.{Limit}
 use Rattle.reals.specs.declared.Limit.the-variants as limit
 use Rattle.reals.specs.Exact.{readLimit, maxBelow}
 use Rattle.clock.specs.declared.Date.{Date}
-use Rattle.clock.specs.declared.DateField.{DateField}
 use Rattle.clock.specs.declared.DateField.the-variants as date
 use Rattle.clock.specs.declared.Time.{Time}
-use Rattle.clock.specs.declared.TimeField.{TimeField}
 use Rattle.clock.specs.declared.TimeField.the-variants as time
 use Rattle.clock.specs.declared.Code.{Code}
 use Rattle.clock.specs.declared.Code.the-variants as code
@@ -45,7 +43,7 @@ use Rattle.clock.specs.Codes.{codeIn, readCode, readLocalCode}
 use Rattle.lines.specs.declared.Fault.{Fault}
 use Rattle.lines.specs.Faults.{textFault, yearFault, indexFault, realFault, frequencyFault, aboveFault, rateFault, sideFault, stateFault}
 use Rattle.lines.specs.Lines.{fault, fields, fine, numberAt, limitAt, dateAt, timeAt, kindAt, codeAt, localAt, value, firstLine, channelsLine, names, scale, limits, analogLine, statusLine, frequencyLine, ratesLine, rateLine, dateLine, kindLine, multiplierLine, codesLine, qualityLine}
-use Rattle.lines.proofs.Laws.{number-told}
+use Rattle.lines.proofs.Laws.{number-told, date-told, time-told}
 use Rattle.model.specs.declared.Kind.{Kind}
 use Rattle.rules.specs.declared.Moment.{Moment}
 use Rattle.paper.specs.Fields.{isBetween, CountIn, Limits}
@@ -276,16 +274,6 @@ rate-line-exactly n before last l =
           let (c, e) = fields-here 2 (s .f) l refl (s .fields) in
           w .exactly last .1 (c, (rw (e 1 refl) (s .rate), (last, rw (e 2 refl) (s .row), (s .rises, refl)))),
     )
-
-date-told : (k : ℕ) (b : DateField) (x : Date) → dateAt k b ≡ says x → b ≡ date.Is x
-date-told k (date.Is y) x e = cc
-date-told k date.Form x e = clash (cc)
-date-told k date.Range x e = clash (cc)
-
-time-told : (k : ℕ) (b : TimeField) (x : Time) → timeAt k b ≡ says x → b ≡ time.Is x
-time-told k (time.Is y) x e = cc
-time-told k time.Form x e = clash (cc)
-time-told k time.Range x e = clash (cc)
 
 pub date-line-exactly : (m : Moment) (l : List ℕ) → dateLine l ≡ says (m .date, m .time) ↔ DateLine m l
 unfolding dateLine

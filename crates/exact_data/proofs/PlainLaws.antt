@@ -1,7 +1,7 @@
 -- Plain texts, exactly.
 --     count-plain, whole-plain     plain counts and plain whole numbers, by their characters
 --     plain-is                     a line that is written is plain
---     plain-only                   a plain text with given rows is what is written of them
+--     plain-written                a plain text with given rows is what is written of them
 --     plain-there                  and what is written is one
 -- Assumes nothing.
 use mathlib.Core.Path.{_≡_, refl, sym, ap, subst, _∙_}
@@ -126,9 +126,9 @@ plain-there l r =
       each = λ i h. record { bytes = line-bytes-plain l (i + 1) (r i); is = plain-is l (i + 1) (r i) };
     }
 
-pub plain-only : (l : Layout) (r : ℕ → Row) (s : List ℕ) → TextFile l r s → PlainText l s → s ≡ textFile l r
+pub plain-written : (l : Layout) (r : ℕ → Row) (s : List ℕ) → TextFile l r s → PlainText l s → s ≡ textFile l r
 unfolding textOf
-plain-only l r s t p =
+plain-written l r s t p =
     let x = same-lines (p .line) (t .line) (l .rows) mark (t .end) (λ i h. p .each i h .bytes) (λ i h. t .each i h .bytes) (sym (p .whole) ∙ t .whole) .0 in
     p .whole
     ∙ ap (λ (y : List ℕ). y ++ mark)

@@ -2,6 +2,7 @@
 --     value-le, value-ge, lettered-le                      a number that was read in a range, and a count with a letter
 --     number-is, number-told                               a number that was read, as the code tells it, and where it is said
 --     channels-said, rates-said, rate-said, quality-said   how large and how small: there is a channel, and a last row is a row
+--     date-told, time-told                                 where a date and a time are said
 --     date-said                                            the date and the time are of the calendar
 --     channels-le, rates-le, rate-le, quality-le           how large with the zeros beside a refusal
 --     date-valid                                           the date and time of a date line that is fine
@@ -162,12 +163,12 @@ quality-said l v e =
       rw (number-told 2 (readLeap (fieldAt 2 l)) (p .0) (p .1)) at (leap-small (fieldAt 2 l)),
     )
 
-date-told : (k : ℕ) (f : DateField) (d : Date) → dateAt k f ≡ says d → f ≡ date.Is d
+pub date-told : (k : ℕ) (f : DateField) (d : Date) → dateAt k f ≡ says d → f ≡ date.Is d
 date-told k (date.Is x) d e = cc
 date-told k date.Form d e = clash (cc)
 date-told k date.Range d e = clash (cc)
 
-time-told : (k : ℕ) (f : TimeField) (t : Time) → timeAt k f ≡ says t → f ≡ time.Is t
+pub time-told : (k : ℕ) (f : TimeField) (t : Time) → timeAt k f ≡ says t → f ≡ time.Is t
 time-told k (time.Is x) t e = cc
 time-told k time.Form t e = clash (cc)
 time-told k time.Range t e = clash (cc)

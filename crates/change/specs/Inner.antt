@@ -6,18 +6,18 @@ use Prim.Native.Nat.{ℕ, zero, suc, _+_, _*_, _≤_}
 use lib.Dec.{eqb}
 use lib.IntN.{ℤ}
 use lib.ListN.{length}
-use Rattle.lists.specs.Choice.{if_then_else_}
-use Rattle.lists.specs.Said.{Said, says, refuses, _>>_, must}
-use Rattle.lists.specs.Tables.{cat}
+use Rattle.ground.specs.Choice.{if_then_else_}
+use Rattle.ground.specs.Said.{Said, says, refuses, _>>_, must}
+use Rattle.ground.specs.Tables.{cat}
 use Rattle.model.specs.declared.Kind.{Kind}
 use Rattle.model.specs.declared.Layout.{Layout}
 use Rattle.model.specs.declared.Row.{Row}
 use Rattle.model.specs.declared.Refusal.{Refusal}
 use Rattle.model.specs.Layouts.{inKind}
 use Rattle.model.specs.Refusals.{refused}
-use Rattle.binary.specs.Rows.{rowSize}
+use Rattle.binary_row.specs.Rows.{rowSize}
 use Rattle.recode.specs.Inner.{fitFrom}
-use Rattle.plain.specs.Rows.{lengthBy}
+use Rattle.ascii_plain.specs.Rows.{lengthBy}
 use Rattle.data.specs.Files.{byKind, fileFine, rowAt, bytesOf, misfitOf, endMark}
 use Rattle.data.specs.Inner.{lengthOf}
 use Rattle.change.specs.declared.Tally.{Tally}

@@ -18,9 +18,9 @@ use native.Mathlib.Omega.{arith}
 use borrow.Author.Tests.{eq-eqb, eqb-true, eqb-false, ltb-true, ltb-false}
 use lib.Dec.{eqb, ltb, lit<}
 use lib.IntN.{ℤ, pos, _+ℤ_}
-use Rattle.lists.specs.Choice.{if_then_else_}
-use Rattle.lists.proofs.Cases.{on-test, clash}
-use Rattle.lists.proofs.Every.{and-split}
+use Rattle.ground.specs.Choice.{if_then_else_}
+use Rattle.ground.proofs.Cases.{on-test, clash}
+use Rattle.ground.proofs.Every.{and-split}
 use Rattle.clock.specs.declared.Date.{Date}
 use Rattle.clock.specs.declared.DateField.the-variants.{Is, Form, Range}
 use Rattle.clock.specs.Patterns.{within, fits}

@@ -3,7 +3,7 @@
 -- Assumes nothing.
 use mathlib.Core.Path.{_≡_, refl}
 use lib.IntN.{pos, negℤ}
-use Rattle.lists.specs.Quoted.{quoted}
+use Rattle.ground.specs.Quoted.{quoted}
 use Rattle.clock.specs.declared.DateField.the-variants as date
 use Rattle.clock.specs.declared.Code.the-variants as code
 use Rattle.clock.specs.Patterns.{fitsPlace, fits, digitsAt, within}

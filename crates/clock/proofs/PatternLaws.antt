@@ -13,11 +13,11 @@ use native.Mathlib.Omega.{arith}
 use borrow.Author.Tests.{leb-true, le-leb}
 use lib.Dec.{leb, lit<}
 use lib.ListN.{length}
-use Rattle.lists.specs.Choice.{if_then_else_}
-use Rattle.lists.specs.Tables.{part}
-use Rattle.lists.proofs.Cases.{on-test}
-use Rattle.lists.proofs.Every.{and-split, and-join}
-use Rattle.lists.proofs.Parts.{length-part-le}
+use Rattle.ground.specs.Choice.{if_then_else_}
+use Rattle.ground.specs.Tables.{part}
+use Rattle.ground.proofs.Cases.{on-test}
+use Rattle.ground.proofs.Every.{and-split, and-join}
+use Rattle.ground.proofs.Parts.{length-part-le}
 use Rattle.numerals.specs.declared.Count.{Count}
 use Rattle.numerals.specs.declared.Count.the-variants.{Is, Form}
 use Rattle.numerals.specs.Counts.{numberOf, Below}

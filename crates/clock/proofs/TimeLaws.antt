@@ -14,8 +14,8 @@ use native.Mathlib.Omega.{arith}
 use borrow.Author.Tests.{ltb-true}
 use lib.Dec.{ltb}
 use lib.ListN.{length, take}
-use Rattle.lists.proofs.Cases.{clash}
-use Rattle.lists.proofs.Every.{and-split}
+use Rattle.ground.proofs.Cases.{clash}
+use Rattle.ground.proofs.Every.{and-split}
 use Rattle.numerals.specs.Counts.{lengthIn}
 use Rattle.numerals.proofs.CountLaws.{length-bounds}
 use Rattle.clock.specs.declared.Time.{Time}

@@ -4,8 +4,8 @@ use mathlib.Core.Bool.{Bool, true, false, _&&_}
 use mathlib.Core.List.{List}
 use lib.IntN.{ℤ, pos, negℤ}
 use lib.ListN.{drop}
-use Rattle.lists.specs.Quoted.{quoted}
-use Rattle.lists.specs.Choice.{if_then_else_}
+use Rattle.ground.specs.Quoted.{quoted}
+use Rattle.ground.specs.Choice.{if_then_else_}
 use Rattle.numerals.specs.Counts.{lengthIn, leadingSpaces}
 use Rattle.numerals.specs.Wholes.{signLength, hasMinus}
 use Rattle.clock.specs.declared.Code.{Code}

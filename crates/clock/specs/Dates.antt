@@ -4,8 +4,8 @@ use mathlib.Core.Bool.{Bool, true, false, _&&_, _||_}
 use mathlib.Core.List.{List}
 use lib.Dec.{eqb, ltb}
 use lib.IntN.{ℤ, pos}
-use Rattle.lists.specs.Quoted.{quoted}
-use Rattle.lists.specs.Choice.{if_then_else_}
+use Rattle.ground.specs.Quoted.{quoted}
+use Rattle.ground.specs.Choice.{if_then_else_}
 use Rattle.clock.specs.declared.Date.{Date}
 use Rattle.clock.specs.declared.DateField.{DateField}
 use Rattle.clock.specs.declared.DateField.the-variants.{Is, Form, Range}

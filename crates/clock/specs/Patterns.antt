@@ -3,8 +3,8 @@ use Prim.Native.Nat.{ℕ}
 use mathlib.Core.Bool.{Bool, true, false, _&&_}
 use mathlib.Core.List.{List, [], _∷_}
 use lib.Dec.{eqb, leb}
-use Rattle.lists.specs.Choice.{if_then_else_}
-use Rattle.lists.specs.Tables.{part}
+use Rattle.ground.specs.Choice.{if_then_else_}
+use Rattle.ground.specs.Tables.{part}
 use Rattle.numerals.specs.declared.Count.{Count}
 use Rattle.numerals.specs.declared.Count.the-variants.{Is, Form}
 use Rattle.numerals.specs.Counts.{isDigit, numberOf}

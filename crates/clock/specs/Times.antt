@@ -4,8 +4,8 @@ use mathlib.Core.Bool.{Bool, _&&_}
 use mathlib.Core.List.{List}
 use lib.Dec.{ltb}
 use lib.ListN.{length, take}
-use Rattle.lists.specs.Quoted.{quoted}
-use Rattle.lists.specs.Choice.{if_then_else_}
+use Rattle.ground.specs.Quoted.{quoted}
+use Rattle.ground.specs.Choice.{if_then_else_}
 use Rattle.numerals.specs.Counts.{lengthIn}
 use Rattle.clock.specs.declared.Time.{Time}
 use Rattle.clock.specs.declared.TimeField.{TimeField}

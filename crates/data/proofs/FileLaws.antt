@@ -14,9 +14,9 @@ use Prim.Native.Nat.{ℕ, _+_, _*_, _^_, _<_}
 use native.Mathlib.Omega.{arith}
 use lib.IntN.{pos}
 use lib.ListN.{length, getD}
-use Rattle.lists.specs.Said.{says}
-use Rattle.lists.specs.Tables.{every}
-use Rattle.lists.proofs.Tables.{cat-ext}
+use Rattle.ground.specs.Said.{says}
+use Rattle.ground.specs.Tables.{every}
+use Rattle.ground.proofs.Tables.{cat-ext}
 use Rattle.words.specs.Words.{isByte}
 use Rattle.words.proofs.WordLaws.{bytes-part, wordOf-part-lt}
 use Rattle.model.specs.declared.Kind.{Kind}
@@ -28,15 +28,15 @@ use Rattle.model.specs.Layouts.{isSized}
 use Rattle.model.specs.Rows.{trimmed}
 use Rattle.model.proofs.FitLaws.{misfit-all, all-misfit}
 use Rattle.model.proofs.LayoutLaws.{sized}
-use Rattle.binary.specs.Rows as binary
-use Rattle.binary.proofs.RowLaws as laws
-use Rattle.binaries.specs.Files.{rowBytes, checkBinary, binaryRow, binaryFile}
-use Rattle.binaries.proofs.FileLaws.{binary-accepted, binary-reads-back, binary-back}
-use Rattle.plain.specs.Rows.{textOf, textLength}
-use Rattle.plain.proofs.LengthLaws.{length-text}
-use Rattle.texts.specs.Files.{checkText, textRow, mark, textFile}
-use Rattle.texts.proofs.RoundLaws.{Fits}
-use Rattle.texts.proofs.FileLaws as texts
+use Rattle.binary_row.specs.Rows as binary
+use Rattle.binary_row.proofs.RowLaws as laws
+use Rattle.binary_file.specs.Files.{rowBytes, checkBinary, binaryRow, binaryFile}
+use Rattle.binary_file.proofs.FileLaws.{binary-accepted, binary-reads-back, binary-back}
+use Rattle.ascii_plain.specs.Rows.{textOf, textLength}
+use Rattle.ascii_plain.proofs.LengthLaws.{length-text}
+use Rattle.ascii_file.specs.Files.{checkText, textRow, mark, textFile}
+use Rattle.ascii_file.proofs.RoundLaws.{Fits}
+use Rattle.ascii_file.proofs.FileLaws as ascii_file
 use Rattle.data.specs.Files.{fileFine, rowAt, bytesOf, misfitOf, endMark, fileOf}
 use Rattle.data.specs.Inner.{lengthOf}
 use Rattle.data.proofs.Laws.{text-kind, binary-kind}
@@ -99,14 +99,14 @@ module _ (l : Layout) (ok : isSized l ≡ true) (r : ℕ → Row) (writes : (i :
   unfolding fileFine
   fine-back =
       by-kind (l .kind)
-      (λ e. rw (text-kind (l .kind) (checkText l (fileOf l r)) (checkBinary l (fileOf l r)) e, file-text l e r) (texts.text-accepted l (sized l ok) r (λ i h. fits-text l e (r i) (writes i h))))
+      (λ e. rw (text-kind (l .kind) (checkText l (fileOf l r)) (checkBinary l (fileOf l r)) e, file-text l e r) (ascii_file.text-accepted l (sized l ok) r (λ i h. fits-text l e (r i) (writes i h))))
       (λ e. rw (binary-kind (l .kind) (checkText l (fileOf l r)) (checkBinary l (fileOf l r)) e, file-binary l e r) (binary-accepted l r (sized l ok)))
 
   pub row-back : (i : ℕ) → i < l .rows → rowAt l (fileOf l r) i ≡ trimmed l (r i)
   unfolding rowAt misfitOf
   row-back i h =
       by-kind (l .kind)
-      (λ e. rw (text-kind (l .kind) (textRow l i (fileOf l r)) (binaryRow l i (fileOf l r)) e, file-text l e r) (texts.text-reads-back l (sized l ok) r (λ j k. fits-text l e (r j) (writes j k)) i h))
+      (λ e. rw (text-kind (l .kind) (textRow l i (fileOf l r)) (binaryRow l i (fileOf l r)) e, file-text l e r) (ascii_file.text-reads-back l (sized l ok) r (λ j k. fits-text l e (r j) (writes j k)) i h))
       (λ e.
       rw (binary-kind (l .kind) (textRow l i (fileOf l r)) (binaryRow l i (fileOf l r)) e, file-binary l e r)
       (binary-reads-back l r i h (writes i h .all) (writes i h .time)))
@@ -117,7 +117,7 @@ module _ (l : Layout) (s : List ℕ) (bytes : every isByte s ≡ true) where
   unfolding rowAt binaryRow misfitOf binary.rowOf
   row-writes i =
       by-kind (l .kind)
-      (λ e. rw (text-kind (l .kind) (textRow l i s) (binaryRow l i s) e) (text-writes l e (textRow l i s) (texts.row-fits l i s)))
+      (λ e. rw (text-kind (l .kind) (textRow l i s) (binaryRow l i s) e) (text-writes l e (textRow l i s) (ascii_file.row-fits l i s)))
       (λ e.
       let b = rowBytes l i s in
       let h = bytes-part (i * binary.rowSize l) (i * binary.rowSize l + binary.rowSize l) s bytes in
@@ -128,7 +128,7 @@ module _ (l : Layout) (s : List ℕ) (bytes : every isByte s ≡ true) where
   unfolding rowAt binaryRow
   row-trimmed i =
       by-kind (l .kind)
-      (λ e. rw (text-kind (l .kind) (textRow l i s) (binaryRow l i s) e) (texts.text-trimmed l i s))
+      (λ e. rw (text-kind (l .kind) (textRow l i s) (binaryRow l i s) e) (ascii_file.text-trimmed l i s))
       (λ e. rw (binary-kind (l .kind) (textRow l i s) (binaryRow l i s) e) (laws.row-trimmed l (rowBytes l i s)))
 
   pub file-back : (l .kind ≡ Ascii → ⊥) → fileFine l s ≡ says tt → fileOf l (rowAt l s) ≡ s

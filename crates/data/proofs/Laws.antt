@@ -16,9 +16,9 @@ use denote.Enum.Declared.{tagOf}
 use lib.Dec.{eqb, leb}
 use lib.ListN.{length}
 use types.Run.{OneOf}
-use Rattle.lists.specs.Said.{says, _>>_, must}
-use Rattle.lists.proofs.Every.{and-split}
-use Rattle.lists.proofs.SaidLaws.{must-told}
+use Rattle.ground.specs.Said.{says, _>>_, must}
+use Rattle.ground.proofs.Every.{and-split}
+use Rattle.ground.proofs.SaidLaws.{must-told}
 use Rattle.model.proofs.Kind.{the-type}
 use Rattle.model.specs.declared.Kind.{Kind}
 use Rattle.model.specs.declared.Kind.the-variants.{Ascii, Binary, Binary32}

@@ -7,13 +7,13 @@ use mathlib.Core.Bool.{false}
 use Prim.Native.Nat.{ℕ, _≤_}
 use lib.IntN.{pos}
 use lib.ListN.{length, getD}
-use Rattle.lists.proofs.Filled.{getD-padded}
+use Rattle.ground.proofs.Filled.{getD-padded}
 use Rattle.model.specs.declared.Layout.{Layout}
 use Rattle.model.specs.declared.Row.{Row}
 use Rattle.model.specs.Rows.{trimmed}
 use Rattle.model.proofs.FitLaws.{unread-misfit}
-use Rattle.binary.proofs.RowLaws.{unread-bytes}
-use Rattle.plain.proofs.LineLaws.{unread-text}
+use Rattle.binary_row.proofs.RowLaws.{unread-bytes}
+use Rattle.ascii_plain.proofs.LineLaws.{unread-text}
 use Rattle.data.specs.Files.{bytesOf, misfitOf, writeSaid}
 use Rattle.data.proofs.FileLaws.{by-kind, bytes-text, bytes-binary}
 

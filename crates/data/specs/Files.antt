@@ -4,8 +4,8 @@ use mathlib.Core.List.{List, [], _++_}
 use Prim.Native.Nat.{ℕ, _+_, _-_}
 use lib.Dec.{eqb, leb}
 use lib.ListN.{length}
-use Rattle.lists.specs.Said.{Said, says, refuses, _>>_, must}
-use Rattle.lists.specs.Tables.{cat}
+use Rattle.ground.specs.Said.{Said, says, refuses, _>>_, must}
+use Rattle.ground.specs.Tables.{cat}
 use Rattle.model.specs.declared.Kind.{Kind}
 use Rattle.model.specs.declared.Kind.the-variants.{Ascii, Binary, Binary32}
 use Rattle.model.specs.declared.Layout.{Layout}
@@ -16,10 +16,10 @@ use Rattle.model.specs.declared.Answer.the-variants as answer
 use Rattle.model.specs.Layouts.{isSized}
 use Rattle.model.specs.Refusals.{refused, answerOf}
 use Rattle.model.specs.Rows.{zeroRow, misfit}
-use Rattle.binary.specs.Rows as binary
-use Rattle.binaries.specs.Files as binaries
-use Rattle.plain.specs.Rows as plain
-use Rattle.texts.specs.Files as texts
+use Rattle.binary_row.specs.Rows as binary
+use Rattle.binary_file.specs.Files as binary_file
+use Rattle.ascii_plain.specs.Rows as plain
+use Rattle.ascii_file.specs.Files as ascii_file
 use Rattle.data.specs.declared.RowAnswer.{RowAnswer}
 
 -- what is said by the kind; the two binary kinds differ by the layout alone
@@ -30,11 +30,11 @@ byKind Binary32 text binary = binary
 
 -- the file is fine
 unfoldable pub fileFine : Layout → List ℕ → Said Refusal (Unit {0})
-fileFine l s = byKind (l .kind) (texts.checkText l s) (binaries.checkBinary l s)
+fileFine l s = byKind (l .kind) (ascii_file.checkText l s) (binary_file.checkBinary l s)
 
 -- row i of a file, counted from 0
 unfoldable pub rowAt : Layout → List ℕ → ℕ → Row
-rowAt l s i = byKind (l .kind) (texts.textRow l i s) (binaries.binaryRow l i s)
+rowAt l s i = byKind (l .kind) (ascii_file.textRow l i s) (binary_file.binaryRow l i s)
 
 -- the bytes that row n is written in; its places past A and D are not read
 unfoldable pub bytesOf : Layout → ℕ → Row → List ℕ
@@ -84,7 +84,7 @@ writeSaid l n r room = do
 
 -- what follows the last row of a file that is written: the end mark of a text
 unfoldable pub endMark : Layout → List ℕ
-endMark l = byKind (l .kind) texts.mark []
+endMark l = byKind (l .kind) ascii_file.mark []
 
 -- the file whose rows are r 0, r 1, ..
 unfoldable pub fileOf : Layout → (ℕ → Row) → List ℕ

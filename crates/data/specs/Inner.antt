@@ -2,8 +2,8 @@
 use Prim.Native.Nat.{ℕ}
 use Rattle.model.specs.declared.Layout.{Layout}
 use Rattle.model.specs.declared.Row.{Row}
-use Rattle.binary.specs.Rows as binary
-use Rattle.plain.specs.Rows as plain
+use Rattle.binary_row.specs.Rows as binary
+use Rattle.ascii_plain.specs.Rows as plain
 use Rattle.data.specs.Files.{byKind}
 
 -- how many bytes row n takes

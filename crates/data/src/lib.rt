@@ -9,11 +9,11 @@ use model::Written;
 ghost use mathlib.Core.Path.{_≡_};
 ghost use Prim.Native.Nat.{_<_};
 ghost use lib.ListN.{length};
-ghost use Rattle.lists.specs.Said.{refuses, over};
+ghost use Rattle.ground.specs.Said.{refuses, over};
 ghost use Rattle.model.specs.Layouts.{Sized};
 ghost use Rattle.model.specs.Refusals.{writtenOf};
-ghost use Rattle.binaries.specs.Files.{checkBinary, binaryRow};
-ghost use Rattle.texts.specs.Files.{checkText, textRow};
+ghost use Rattle.binary_file.specs.Files.{checkBinary, binaryRow};
+ghost use Rattle.ascii_file.specs.Files.{checkText, textRow};
 ghost use Rattle.data.specs.Files.{bytesOf, hasRow, misfitOf, checkFile, rowAnswer, shown, showRow, writeSaid};
 ghost use Rattle.data.specs.Inner.{lengthOf};
 
@@ -42,8 +42,8 @@ pub fn check(layout: Layout, data: &[u8]) -> Answer
     }
     let kind = layout.kind;
     match kind {
-        Kind::Ascii => texts::check_text(layout, data),
-        Kind::Binary | Kind::Binary32 => binaries::check_binary(layout, data),
+        Kind::Ascii => ascii_file::check_text(layout, data),
+        Kind::Binary | Kind::Binary32 => binary_file::check_binary(layout, data),
     }
 }
 
@@ -63,10 +63,10 @@ fn show_text(layout: Layout, data: &[u8], i: u32) -> RowAnswer
     requires { ⌜ (Sized layout) × (i < layout .rows) ⌝ }
     ensures { λ r. ⌜ r ≡ shown (checkText layout (now («data» .entry))) (textRow layout i (now («data» .entry))) ⌝ }
 {
-    let answer = texts::check_text(layout, data);
+    let answer = ascii_file::check_text(layout, data);
     match answer {
         Answer::Yes => {
-            let row = texts::row_at(layout, data, i);
+            let row = ascii_file::row_at(layout, data, i);
             RowAnswer {
                 answer: Answer::Yes,
                 row: row,
@@ -81,10 +81,10 @@ fn show_binary(layout: Layout, data: &[u8], i: u32) -> RowAnswer
     requires { ⌜ (Sized layout) × (i < layout .rows) ⌝ }
     ensures { λ r. ⌜ r ≡ shown (checkBinary layout (now («data» .entry))) (binaryRow layout i (now («data» .entry))) ⌝ }
 {
-    let answer = binaries::check_binary(layout, data);
+    let answer = binary_file::check_binary(layout, data);
     match answer {
         Answer::Yes => {
-            let row = binaries::row_at(layout, data, i);
+            let row = binary_file::row_at(layout, data, i);
             RowAnswer {
                 answer: Answer::Yes,
                 row: row,
@@ -118,8 +118,8 @@ pub fn row_length(layout: Layout, n: u32, row: Row) -> usize
 {
     let kind = layout.kind;
     match kind {
-        Kind::Ascii => plain::text_length(layout, n, row),
-        Kind::Binary | Kind::Binary32 => binary::row_size(layout),
+        Kind::Ascii => ascii_plain::text_length(layout, n, row),
+        Kind::Binary | Kind::Binary32 => binary_row::row_size(layout),
     }
 }
 
@@ -156,10 +156,10 @@ pub fn put_row(layout: Layout, n: u32, row: Row, d: &mut [u8])
     let kind = layout.kind;
     match kind {
         Kind::Ascii => {
-            plain::put_text(layout, n, row, d);
+            ascii_plain::put_text(layout, n, row, d);
         }
         Kind::Binary | Kind::Binary32 => {
-            binary::put_row(layout, n, row, d);
+            binary_row::put_row(layout, n, row, d);
         }
     }
 }

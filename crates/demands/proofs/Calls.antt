@@ -18,11 +18,11 @@ use borrow.Author.Tests.{eqb-true, leb-true}
 use lib.Dec.{lit≤, eqb, leb}
 use lib.IntN.{ℤ}
 use lib.ListN.{length, take, drop}
-use Rattle.lists.specs.Choice.{if_then_else_}
-use Rattle.lists.specs.Said.{Said, says, refuses, _>>=_, _>>_, must, over}
-use Rattle.lists.proofs.Cases.{on-test, clash}
-use Rattle.lists.proofs.SaidLaws.{must-told, must-holds, bind-told, no-byte, only-told}
-use Rattle.lists.proofs.RefusalLaws.{RefusesOnly, only-must, only-then, only-bind, only-wider, only-given}
+use Rattle.ground.specs.Choice.{if_then_else_}
+use Rattle.ground.specs.Said.{Said, says, refuses, _>>=_, _>>_, must, over}
+use Rattle.ground.proofs.Cases.{on-test, clash}
+use Rattle.ground.proofs.SaidLaws.{must-told, must-holds, bind-told, no-byte, only-told}
+use Rattle.ground.proofs.RefusalLaws.{RefusesOnly, only-must, only-then, only-bind, only-wider, only-given}
 use Rattle.model.specs.declared.Kind.{Kind}
 use Rattle.model.specs.declared.KindNo.{KindNo}
 use Rattle.model.specs.declared.KindNo.the-variants as number
@@ -35,7 +35,7 @@ use Rattle.model.specs.Layouts.{isSized, inKind}
 use Rattle.model.specs.Refusals.{refused, answerOf}
 use Rattle.model.specs.Rows.{zeroRow}
 use Rattle.model.proofs.AnswerLaws.{no-told}
-use Rattle.rules.specs.declared.Config.{Config}
+use Rattle.config_rules.specs.declared.Config.{Config}
 use Rattle.config.specs.Reading.{saidOf}
 use Rattle.config.specs.Config.{noConfig, configAnswer, configuration, readConfig}
 use Rattle.data.specs.Files.{fileFine, rowAt, bytesOf, hasRow, misfitOf, checkFile, rowAnswer, showRow, writeSaid}

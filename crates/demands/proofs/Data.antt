@@ -21,10 +21,10 @@ use Prim.Native.Nat.{ℕ, _+_, _-_, _≤_, _<_}
 use native.Mathlib.Omega.{arith}
 use borrow.Author.Tests.{eq-eqb, le-leb}
 use lib.ListN.{length}
-use Rattle.lists.specs.Said.{says, refuses}
-use Rattle.lists.specs.Tables.{cat, every}
-use Rattle.lists.proofs.Cases.{clash}
-use Rattle.lists.proofs.Tables.{cat-ext}
+use Rattle.ground.specs.Said.{says, refuses}
+use Rattle.ground.specs.Tables.{cat, every}
+use Rattle.ground.proofs.Cases.{clash}
+use Rattle.ground.proofs.Tables.{cat-ext}
 use Rattle.words.specs.Words.{isByte}
 use Rattle.model.specs.declared.Kind.{Kind}
 use Rattle.model.specs.declared.Layout.{Layout}

@@ -11,10 +11,10 @@ use Prim.Native.Nat.{ℕ, _-_, _≤_}
 use borrow.Author.Tests.{leb-true, le-leb}
 use lib.Dec.{leb}
 use lib.IntN.{ℤ}
-use Rattle.lists.specs.Said.{says, _>>=_, _>>_}
-use Rattle.lists.specs.Tables.{every}
-use Rattle.lists.proofs.Cases.{clash}
-use Rattle.lists.proofs.SaidLaws.{must-told, bind-told}
+use Rattle.ground.specs.Said.{says, _>>=_, _>>_}
+use Rattle.ground.specs.Tables.{every}
+use Rattle.ground.proofs.Cases.{clash}
+use Rattle.ground.proofs.SaidLaws.{must-told, bind-told}
 use Rattle.words.specs.Words.{isByte}
 use Rattle.model.specs.declared.Kind.{Kind}
 use Rattle.model.specs.declared.KindNo.{KindNo}
@@ -25,7 +25,7 @@ use Rattle.model.specs.declared.Answer.the-variants.{Yes, No}
 use Rattle.model.specs.Kinds.{kindOf}
 use Rattle.model.specs.Layouts.{Sized}
 use Rattle.model.specs.Refusals.{refused}
-use Rattle.rules.specs.declared.Config.{Config}
+use Rattle.config_rules.specs.declared.Config.{Config}
 use Rattle.config.specs.declared.ConfigAnswer.{ConfigAnswer}
 use Rattle.config.specs.Config.{readConfig}
 use Rattle.data.specs.declared.RowAnswer.{RowAnswer}

@@ -11,9 +11,9 @@ use Prim.Native.Nat.{ℕ, zero, suc, _+_, _*_, _≤_, max}
 use native.Mathlib.Omega.{arith}
 use lib.Dec.{lit≤, eqb, leb}
 use lib.ListN.{length, take, drop}
-use Rattle.lists.specs.Said.{Said, says, refuses, _>>=_, _>>_, must}
-use Rattle.lists.proofs.Cases.{on-test}
-use Rattle.lists.proofs.RefusalLaws.{RefusesOnly, only-must, only-then, only-bind}
+use Rattle.ground.specs.Said.{Said, says, refuses, _>>=_, _>>_, must}
+use Rattle.ground.proofs.Cases.{on-test}
+use Rattle.ground.proofs.RefusalLaws.{RefusesOnly, only-must, only-then, only-bind}
 use Rattle.text.specs.declared.Scanned.{Scanned}
 use Rattle.text.specs.declared.Scanned.the-variants.{Line, Ends, Bad}
 use Rattle.text.specs.Lines.{scanLine, scanLastLine}
@@ -21,26 +21,26 @@ use Rattle.text.specs.Fields.{fieldCount, fieldLength, firstField, afterFields,
 use Rattle.numerals.specs.declared.Count.{Count}
 use Rattle.numerals.specs.declared.Count.the-variants as count
 use Rattle.numerals.specs.Counts.{readCount}
-use Rattle.lines.specs.declared.Fault.{Fault}
-use Rattle.lines.specs.Lines.{firstLine, channelsLine, analogLine, statusLine, frequencyLine, ratesLine, rateLine, dateLine, kindLine, multiplierLine, codesLine, qualityLine}
-use Rattle.lines.proofs.PlaceLaws.{FaultPlaced, whole, form, range, agreement, year, Ruled, first-ruled, channels-ruled, analog-ruled, status-ruled, frequency-ruled, rates-ruled, rate-ruled, date-line-ruled, kind-line-ruled, multiplier-ruled, codes-ruled, quality-ruled}
+use Rattle.config_lines.specs.declared.Fault.{Fault}
+use Rattle.config_lines.specs.Lines.{firstLine, channelsLine, analogLine, statusLine, frequencyLine, ratesLine, rateLine, dateLine, kindLine, multiplierLine, codesLine, qualityLine}
+use Rattle.config_lines.proofs.PlaceLaws.{FaultPlaced, whole, form, range, agreement, year, Ruled, first-ruled, channels-ruled, analog-ruled, status-ruled, frequency-ruled, rates-ruled, rate-ruled, date-line-ruled, kind-line-ruled, multiplier-ruled, codes-ruled, quality-ruled}
 use Rattle.model.specs.declared.Kind.{Kind}
 use Rattle.model.specs.declared.Kind.the-variants.{Ascii, Binary, Binary32}
 use Rattle.model.specs.declared.Layout.{Layout}
 use Rattle.model.specs.declared.Row.{Row}
 use Rattle.model.specs.declared.Refusal.{Refusal}
 use Rattle.model.specs.Refusals.{refused}
-use Rattle.rules.specs.declared.Config.{Config}
+use Rattle.config_rules.specs.declared.Config.{Config}
 use Rattle.config.specs.Reading as reading
 use Rattle.config.specs.Reading.{Place, saidOf, inLine, scanned, line, lastLine, times}
 use Rattle.config.specs.Config.{lastRows, size, nothingMore, configuration}
-use Rattle.binary.specs.Rows.{rowSize, rowCheck}
-use Rattle.binaries.specs.Files as binaries
-use Rattle.binaries.specs.Files.{rowBytes, rowRefusal, fineRow, checkLength, checkBinary}
-use Rattle.ascii.specs.Rows as ascii
-use Rattle.ascii.specs.Rows.{fieldFine, fieldsOf, checkFields, checkNumber, checkLine}
-use Rattle.texts.specs.Files as texts
-use Rattle.texts.specs.Files.{scanRow, found, checkRow, isEnding, checkText}
+use Rattle.binary_row.specs.Rows.{rowSize, rowCheck}
+use Rattle.binary_file.specs.Files as binary_file
+use Rattle.binary_file.specs.Files.{rowBytes, rowRefusal, fineRow, checkLength, checkBinary}
+use Rattle.ascii_row.specs.Rows as ascii
+use Rattle.ascii_row.specs.Rows.{fieldFine, fieldsOf, checkFields, checkNumber, checkLine}
+use Rattle.ascii_file.specs.Files as ascii_file
+use Rattle.ascii_file.specs.Files.{scanRow, found, checkRow, isEnding, checkText}
 use Rattle.data.specs.Files.{byKind, fileFine, misfitOf}
 use Rattle.change.specs.Change.{fitRow, fitRows}
 
@@ -96,18 +96,18 @@ row-placed what n h =
     only-must (PlacedTo 16) (eqb what 0) (rowRefusal what n) (λ e.
     on-test (eqb what 12) (λ f. rw f (row-number n h, lit≤ tt)) (λ f. rw f (row-padding n h, lit≤ tt)))
 
-binary-rows : (l : Layout) (s : List ℕ) (i m : ℕ) → RefusesOnly (PlacedTo 16) (binaries.checkRows l s i m)
-unfolding binaries.checkRows
+binary-rows : (l : Layout) (s : List ℕ) (i m : ℕ) → RefusesOnly (PlacedTo 16) (binary_file.checkRows l s i m)
+unfolding binary_file.checkRows
 binary-rows l s i zero = tt
 binary-rows l s i (suc m) =
-    only-then (PlacedTo 16) (fineRow (rowCheck l (i + 1) (rowBytes l i s)) (i + 1)) (binaries.checkRows l s (i + 1) m)
+    only-then (PlacedTo 16) (fineRow (rowCheck l (i + 1) (rowBytes l i s)) (i + 1)) (binary_file.checkRows l s (i + 1) m)
     (row-placed (rowCheck l (i + 1) (rowBytes l i s)) (i + 1) (omega arith))
     (λ e. binary-rows l s (i + 1) m)
 
 binary-placed : (l : Layout) (s : List ℕ) → RefusesOnly (PlacedTo 16) (checkBinary l s)
 unfolding checkBinary
 binary-placed l s =
-    only-then (PlacedTo 16) (checkLength l s) (binaries.checkRows l s 0 (l .rows))
+    only-then (PlacedTo 16) (checkLength l s) (binary_file.checkRows l s 0 (l .rows))
     (only-must (PlacedTo 16) (eqb (length s) (l .rows * rowSize l)) (refused 11 0 0) (λ e. (file-length, lit≤ tt)))
     (λ e. binary-rows l s 0 (l .rows))
 
@@ -151,11 +151,11 @@ module _ (n : ℕ) (h : 1 ≤ n) where
       only-bind (PlacedTo 16) (found n (scanRow s)) (λ len. checkLine l n (take len s) >> says (len + 2)) (text-found (scanRow s))
       (λ len e. only-then (PlacedTo 16) (checkLine l n (take len s)) (says (len + 2)) (text-line l (take len s)) (λ f. tt))
 
-text-rows : (l : Layout) (s : List ℕ) (n m : ℕ) → 1 ≤ n → RefusesOnly (PlacedTo 16) (texts.checkRows l s n m)
-unfolding texts.checkRows
+text-rows : (l : Layout) (s : List ℕ) (n m : ℕ) → 1 ≤ n → RefusesOnly (PlacedTo 16) (ascii_file.checkRows l s n m)
+unfolding ascii_file.checkRows
 text-rows l s n zero h = only-must (PlacedTo 16) (isEnding s) (refused 11 n 0) (λ e. (row-ends n h, lit≤ tt))
 text-rows l s n (suc m) h =
-    only-bind (PlacedTo 16) (checkRow l n s) (λ taken. texts.checkRows l (drop taken s) (n + 1) m) (text-row n h l s)
+    only-bind (PlacedTo 16) (checkRow l n s) (λ taken. ascii_file.checkRows l (drop taken s) (n + 1) m) (text-row n h l s)
     (λ taken e. text-rows l (drop taken s) (n + 1) m (omega arith))
 
 kind-placed : (k : Kind) (x y : Said Refusal (Unit {0})) → RefusesOnly (PlacedTo 16) x → RefusesOnly (PlacedTo 16) y → RefusesOnly (PlacedTo 16) (byKind k x y)

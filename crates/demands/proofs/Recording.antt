@@ -11,7 +11,7 @@ use Prim.Native.Nat.{ℕ}
 use Prim.Native.String.{String}
 use lib.IntN.{pos, negℤ}
 use lib.ListN.{replicate}
-use Rattle.lists.specs.Quoted.{quoted}
+use Rattle.ground.specs.Quoted.{quoted}
 use Rattle.text.specs.Lines.{scanLine, scanLastLine}
 use Rattle.text.specs.Fields.{fieldCount, afterFields, fieldAt}
 use Rattle.numerals.specs.Counts.{lengthIn, isDigit, numberOf, readCount}
@@ -25,12 +25,12 @@ use Rattle.clock.specs.Dates.{leapYear, shortMonth, monthDays, validDate, dateO
 use Rattle.clock.specs.Times.{validTime, timeForm, fractionOf, timeOf, readTime, secondOfDay}
 use Rattle.clock.specs.Spans.{secondNumber, spanOf, preTrigger}
 use Rattle.clock.specs.Codes.{signedMinutes, minutesOf, hoursAndMinutes, hoursOf, smallX, codeOf, codeIn, readCode, readLocalCode}
-use Rattle.lines.specs.Faults.{textFault, yearFault, indexFault, realFault, frequencyFault, aboveFault}
-use Rattle.lines.specs.Lines.{firstLine, channelsLine, names, scale, limits, analogLine, statusLine, frequencyLine, ratesLine, rateLine, dateLine, kindLine, multiplierLine, codesLine, qualityLine}
+use Rattle.config_lines.specs.Faults.{textFault, yearFault, indexFault, realFault, frequencyFault, aboveFault}
+use Rattle.config_lines.specs.Lines.{firstLine, channelsLine, names, scale, limits, analogLine, statusLine, frequencyLine, ratesLine, rateLine, dateLine, kindLine, multiplierLine, codesLine, qualityLine}
 use Rattle.model.specs.declared.Kind.the-variants.{Ascii}
 use Rattle.model.specs.declared.Answer.the-variants.{Yes, No}
 use Rattle.model.specs.Refusals.{refused}
-use Rattle.rules.specs.declared.Config.{Config}
+use Rattle.config_rules.specs.declared.Config.{Config}
 use Rattle.config.specs.Config.{noConfig, configuration, readConfig}
 use Rattle.paper.specs.Configuration.{Configuration}
 use Rattle.exact_config.proofs.ExactLaws.{config-exactly}

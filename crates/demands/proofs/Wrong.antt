@@ -25,10 +25,10 @@ use borrow.Author.Tests.{eqb-false, le-leb}
 use lib.Dec.{lit≤, eqb, leb}
 use lib.IntN.{pos, negℤ}
 use lib.ListN.{length, getD, take, drop, replicate}
-use Rattle.lists.specs.Quoted.{quoted}
-use Rattle.lists.specs.Said.{Said, says, refuses, _>>_, must, over}
-use Rattle.lists.proofs.Cases.{clash}
-use Rattle.lists.proofs.SaidLaws.{must-told, bind-told}
+use Rattle.ground.specs.Quoted.{quoted}
+use Rattle.ground.specs.Said.{Said, says, refuses, _>>_, must, over}
+use Rattle.ground.proofs.Cases.{clash}
+use Rattle.ground.proofs.SaidLaws.{must-told, bind-told}
 use Rattle.words.specs.Words.{wordOf, wordBytes}
 use Rattle.words.specs.Signed.{signedOf, unsignedOf}
 use Rattle.text.specs.Lines.{scanLine}
@@ -48,16 +48,16 @@ use Rattle.model.specs.Layouts.{isSized, inKind}
 use Rattle.model.specs.Refusals.{refused}
 use Rattle.model.specs.Rows.{zeroRow, misfit}
 use Rattle.config.specs.Config.{readConfig}
-use Rattle.binary.specs.Rows as binary
-use Rattle.binary.specs.Rows.{rowSize, rowCheck, packed}
-use Rattle.binaries.specs.Files as binaries
-use Rattle.binaries.specs.Files.{rowRefusal, checkBinary, binaryRow}
-use Rattle.ascii.specs.Fields.{readTime, readSample, isStatus, timeIn, sampleIn, statusIn}
-use Rattle.ascii.specs.Rows as ascii
-use Rattle.ascii.specs.Rows.{fieldFine, checkFields, checkNumber, checkLine}
-use Rattle.plain.specs.Rows.{lineOf, textOf}
-use Rattle.texts.specs.Files as texts
-use Rattle.texts.specs.Files.{checkRow, isEnding, checkText, firstLine, afterRows, textRow, mark}
+use Rattle.binary_row.specs.Rows as binary
+use Rattle.binary_row.specs.Rows.{rowSize, rowCheck, packed}
+use Rattle.binary_file.specs.Files as binary_file
+use Rattle.binary_file.specs.Files.{rowRefusal, checkBinary, binaryRow}
+use Rattle.ascii_row.specs.Fields.{readTime, readSample, isStatus, timeIn, sampleIn, statusIn}
+use Rattle.ascii_row.specs.Rows as ascii
+use Rattle.ascii_row.specs.Rows.{fieldFine, checkFields, checkNumber, checkLine}
+use Rattle.ascii_plain.specs.Rows.{lineOf, textOf}
+use Rattle.ascii_file.specs.Files as ascii_file
+use Rattle.ascii_file.specs.Files.{checkRow, isEnding, checkText, firstLine, afterRows, textRow, mark}
 use Rattle.data.specs.Files.{fileFine, rowAt, bytesOf, hasRow, misfitOf, checkFile, showRow, writeSaid, endMark, fileOf}
 use Rattle.change.specs.Change.{fitRow, fitRows, bytesNeeded, changed, changeSaid}
 use Rattle.change.proofs.WriteLaws.{needed-length, change-needs}
@@ -118,10 +118,10 @@ computed :
     × (changeSaid (layout 1 0 2 Ascii) both-unfit Binary 0 ≡ refuses (refused 16 1 3))
     × (length (changed (layout 1 0 2 Ascii) both-unfit Binary) ≡ 20)
     × (fitRow (layout 1 0 2 Binary) 2 (rowAt (layout 1 0 2 Ascii) both-unfit 1) ≡ refuses (refused 16 2 3)))
-unfolding checkFile showRow writeSaid isSized hasRow fileFine rowAt checkText texts.checkRows checkRow isEnding scanLine firstLine afterRows textRow fieldCount afterFields fieldAt
+unfolding checkFile showRow writeSaid isSized hasRow fileFine rowAt checkText ascii_file.checkRows checkRow isEnding scanLine firstLine afterRows textRow fieldCount afterFields fieldAt
     checkLine checkNumber checkFields fieldFine ascii.rowOf readTime readSample isStatus timeIn sampleIn statusIn lengthIn isDigit numberOf readCount signLength hasMinus withSign signedNumber readWhole fitsKind
     changeSaid fitRows misfitOf misfit rowSize changed fileOf endMark bytesOf binary.bytesOf packed wordBytes wordOf signedOf unsignedOf
-    checkBinary binaries.checkRows binaryRow binary.rowOf rowCheck rowRefusal decimalIn decimal plain lineOf textOf
+    checkBinary binary_file.checkRows binaryRow binary.rowOf rowCheck rowRefusal decimalIn decimal plain lineOf textOf
 computed = (
   (refl, refl, refl, refl, refl),
   (refl, refl, refl),

@@ -10,8 +10,8 @@
 use mathlib.Core.Path.{_≡_, refl, sym, subst, _∙_}
 use mathlib.Core.Logic.{_↔_, _⊎_, inl, inr}
 use mathlib.Core.Bool.{Bool, true}
-use Rattle.lists.specs.Choice.{if_then_else_}
-use Rattle.lists.proofs.Cases.{on-test, clash}
+use Rattle.ground.specs.Choice.{if_then_else_}
+use Rattle.ground.proofs.Cases.{on-test, clash}
 
 pub other-told : {F P : Type 0} → F ⊎ P → (P → F → ⊥) → F ↔ (P → ⊥)
 other-told (inl f) h = (λ e p. h p e, λ n. f)

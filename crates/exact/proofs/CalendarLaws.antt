@@ -15,7 +15,7 @@ use borrow.Author.Tests.{lt-ltb}
 use lib.IntN.{ℤ, pos, negsuc, subℕ, _+ℤ_, _-ℤ_, +ℤ-comm, +ℤ-negℤ-cancel, -ℤ-+ℤ-cancel}
 use lib.ListN.{take}
 use lib.Seq.{take-suc}
-use Rattle.lists.proofs.Cases.{clash}
+use Rattle.ground.proofs.Cases.{clash}
 use Rattle.clock.specs.declared.Date.{Date}
 use Rattle.clock.specs.declared.Span.{Span}
 use Rattle.clock.specs.Dates as clock
@@ -24,7 +24,7 @@ use Rattle.clock.specs.Times.{validTime, secondOfDay}
 use Rattle.clock.specs.Spans.{secondNumber, preTrigger, inNanoseconds}
 use Rattle.clock.proofs.DateLaws.{date-bounds, years-next}
 use Rattle.clock.proofs.SpanLaws.{pre-exact, pre-below}
-use Rattle.rules.specs.declared.Moment.{Moment}
+use Rattle.config_rules.specs.declared.Moment.{Moment}
 use Rattle.paper.specs.Fields.{monthLengths}
 use Rattle.paper.specs.Configuration.{sum, daysOfYears, dayNumber, instant, PreTrigger}
 use Rattle.exact.proofs.ClockLaws.{month-is}

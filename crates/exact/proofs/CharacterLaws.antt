@@ -16,11 +16,11 @@ use native.Mathlib.Omega.{arith}
 use borrow.Author.Tests.{eq-eqb, eqb-true, eqb-false, le-ltb, lt-ltb}
 use lib.Dec.{eqb}
 use lib.ListN.{length, getD}
-use Rattle.lists.specs.Choice.{if_then_else_}
-use Rattle.lists.specs.Quoted.{quoted}
-use Rattle.lists.specs.Tables.{tab}
-use Rattle.lists.proofs.Cases.{on-test, clash}
-use Rattle.lists.proofs.Walk.{first, done}
+use Rattle.ground.specs.Choice.{if_then_else_}
+use Rattle.ground.specs.Quoted.{quoted}
+use Rattle.ground.specs.Tables.{tab}
+use Rattle.ground.proofs.Cases.{on-test, clash}
+use Rattle.ground.proofs.Walk.{first, done}
 use Rattle.fields.specs.declared.Field.{Field}
 use Rattle.fields.specs.declared.Field.the-variants.{Is, Form, Range}
 use Rattle.fields.specs.Fields.{isAmong, readOneOf, digitValue, readDigitOf, readState, readSide, readQuality, readLeap}

@@ -11,11 +11,11 @@ use Prim.Native.Nat.{ℕ, _+_, _-_, _≤_}
 use native.Mathlib.Omega.{arith}
 use borrow.Author.Tests.{not-true}
 use lib.Dec.{eqb}
-use Rattle.lists.specs.Quoted.{quoted}
-use Rattle.lists.specs.Tables.{cat, every}
-use Rattle.lists.proofs.Cases.{on-test}
-use Rattle.lists.proofs.Every.{and-split}
-use Rattle.lists.proofs.Tables.{cat-ext}
+use Rattle.ground.specs.Quoted.{quoted}
+use Rattle.ground.specs.Tables.{cat, every}
+use Rattle.ground.proofs.Cases.{on-test}
+use Rattle.ground.proofs.Every.{and-split}
+use Rattle.ground.proofs.Tables.{cat-ext}
 use Rattle.text.specs.Fields.{commas, fieldCount, afterFields, fieldAt, joined}
 use Rattle.text.proofs.FieldLaws.{first-plain, joined-count, joined-at, joined-ext, fields-joined}
 use Rattle.paper.specs.Lines.{Fields}

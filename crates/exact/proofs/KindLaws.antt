@@ -14,9 +14,9 @@ use native.Mathlib.Omega.{arith}
 use borrow.Author.Tests.{eq-eqb, eqb-true, ltb-true, ltb-false, lt-leb, le-leb}
 use lib.Dec.{eqb, ltb}
 use lib.ListN.{length}
-use Rattle.lists.specs.Choice.{if_then_else_}
-use Rattle.lists.specs.Quoted.{quoted}
-use Rattle.lists.proofs.Cases.{on-test, clash}
+use Rattle.ground.specs.Choice.{if_then_else_}
+use Rattle.ground.specs.Quoted.{quoted}
+use Rattle.ground.proofs.Cases.{on-test, clash}
 use Rattle.numerals.specs.Counts.{lengthIn}
 use Rattle.numerals.proofs.CountLaws.{length-bounds, length-is}
 use Rattle.model.specs.declared.Kind.{Kind}

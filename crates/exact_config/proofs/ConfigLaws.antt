@@ -17,16 +17,16 @@ use borrow.Author.Tests.{ne-eqb}
 use lib.Dec.{eqb}
 use lib.ListN.{length, take, drop, length-append}
 use lib.Seq.{take-append-seam, drop-append-add, take-length, drop-length}
-use Rattle.lists.specs.Said.{Said, says, refuses}
-use Rattle.lists.specs.Quoted.{quoted}
-use Rattle.lists.proofs.Cases.{on-test, clash}
-use Rattle.lists.proofs.SaidLaws.{bind-told}
+use Rattle.ground.specs.Said.{Said, says, refuses}
+use Rattle.ground.specs.Quoted.{quoted}
+use Rattle.ground.proofs.Cases.{on-test, clash}
+use Rattle.ground.proofs.SaidLaws.{bind-told}
 use Rattle.text.specs.declared.Scanned.{Scanned}
 use Rattle.text.specs.declared.Scanned.the-variants as scan
 use Rattle.text.specs.Lines.{lineFrom, scanLine, orAll, scanLastLine, lineBytes}
 use Rattle.text.proofs.LineLaws.{line-found, last-line-found, line-ended, bytes-passed, line-scanned}
-use Rattle.lines.specs.declared.Fault.{Fault}
-use Rattle.lines.specs.Lines.{rateLine}
+use Rattle.config_lines.specs.declared.Fault.{Fault}
+use Rattle.config_lines.specs.Lines.{rateLine}
 use Rattle.model.specs.declared.Refusal.{Refusal}
 use Rattle.config.specs.Reading.{Place, Reader, inLine, scanned, done, holds, line, lastLine, times}
 use Rattle.config.specs.Reading as paper

@@ -19,23 +19,23 @@ use borrow.Author.Tests.{leb-true, le-leb, eqb-true}
 use lib.Dec.{eqb, leb}
 use lib.IntN.{ℤ}
 use lib.ListN.{length, replicate, length-append}
-use Rattle.lists.specs.Said.{Said, says, refuses}
-use Rattle.lists.specs.Quoted.{quoted}
-use Rattle.lists.proofs.Cases.{clash}
-use Rattle.lists.proofs.Walk as walk
+use Rattle.ground.specs.Said.{Said, says, refuses}
+use Rattle.ground.specs.Quoted.{quoted}
+use Rattle.ground.proofs.Cases.{clash}
+use Rattle.ground.proofs.Walk as walk
 use Rattle.clock.specs.declared.Date.{Date}
 use Rattle.clock.specs.declared.Time.{Time}
 use Rattle.clock.specs.declared.Span.{Span}
 use Rattle.clock.specs.Spans.{preTrigger}
-use Rattle.lines.specs.Lines.{firstLine, channelsLine, analogLine, statusLine, frequencyLine, ratesLine, dateLine, kindLine, multiplierLine, codesLine, qualityLine}
+use Rattle.config_lines.specs.Lines.{firstLine, channelsLine, analogLine, statusLine, frequencyLine, ratesLine, dateLine, kindLine, multiplierLine, codesLine, qualityLine}
 use Rattle.model.specs.declared.Kind.{Kind}
 use Rattle.model.specs.declared.Refusal.{Refusal}
 use Rattle.model.specs.declared.Answer.the-variants.{Yes, No}
 use Rattle.model.specs.Refusals.{refused}
 use Rattle.model.specs.Layouts.{isSized, Sized}
 use Rattle.model.proofs.LayoutLaws.{sized}
-use Rattle.rules.specs.declared.Moment.{Moment}
-use Rattle.rules.specs.declared.Config.{Config}
+use Rattle.config_rules.specs.declared.Moment.{Moment}
+use Rattle.config_rules.specs.declared.Config.{Config}
 use Rattle.config.specs.declared.ConfigAnswer.{ConfigAnswer}
 use Rattle.config.specs.Reading.{Place, saidOf}
 use Rattle.config.specs.Config.{configAnswer, lastOf, configuration, noConfig, readConfig, layoutOf}

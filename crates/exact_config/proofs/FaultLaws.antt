@@ -15,9 +15,9 @@ use native.Mathlib.Omega.{arith}
 use borrow.Author.Tests.{eq-eqb, ne-eqb, eqb-true}
 use lib.Dec.{eqb}
 use lib.ListN.{length}
-use Rattle.lists.specs.Quoted.{quoted}
-use Rattle.lists.proofs.Cases.{on-test, clash}
-use Rattle.lists.proofs.Walk as walk
+use Rattle.ground.specs.Quoted.{quoted}
+use Rattle.ground.proofs.Cases.{on-test, clash}
+use Rattle.ground.proofs.Walk as walk
 use Rattle.numerals.specs.declared.Count.{Count}
 use Rattle.numerals.specs.declared.Count.the-variants as count
 use Rattle.numerals.specs.Counts.{lengthIn, readCount}
@@ -28,7 +28,7 @@ use Rattle.fields.specs.Fields.{readYear, readState, readSide}
 use Rattle.reals.specs.declared.Real.{Real}
 use Rattle.reals.specs.declared.Real.the-variants as real
 use Rattle.reals.specs.Forms.{readReal}
-use Rattle.lines.specs.Faults.{valueOf, textFault, yearIs, yearFault, indexIs, indexFault, anyReal, realFault, frequencyFault, aboveZero, aboveFault, isZero, zeroFault, rateFault, sideFault, stateFault}
+use Rattle.config_lines.specs.Faults.{valueOf, textFault, yearIs, yearFault, indexIs, indexFault, anyReal, realFault, frequencyFault, aboveZero, aboveFault, isZero, zeroFault, rateFault, sideFault, stateFault}
 use Rattle.paper.specs.Fields.{TextField, CountField, RealField, AnyReal}
 use Rattle.paper.specs.Lines.{rateSign}
 use Rattle.exact.proofs.CountLaws.{count-exactly}

@@ -15,19 +15,19 @@ use native.Mathlib.Nat.{add-zero, zero-add, suc-add}
 use native.Mathlib.Omega.{arith}
 use lib.Dec.{eqb, leb}
 use lib.ListN.{length, take, drop}
-use Rattle.lists.specs.Said.{Said, says, refuses}
-use Rattle.lists.specs.Said as said
-use Rattle.lists.proofs.Cases.{clash}
-use Rattle.lists.proofs.SaidLaws.{bind-told}
+use Rattle.ground.specs.Said.{Said, says, refuses}
+use Rattle.ground.specs.Said as said
+use Rattle.ground.proofs.Cases.{clash}
+use Rattle.ground.proofs.SaidLaws.{bind-told}
 use Rattle.text.specs.declared.Scanned.{Scanned}
 use Rattle.text.specs.declared.Scanned.the-variants as scan
 use Rattle.text.specs.Lines.{scanLine, scanLastLine}
-use Rattle.lines.specs.declared.Fault.{Fault}
-use Rattle.lines.specs.Lines.{firstLine, channelsLine, analogLine, statusLine, frequencyLine, ratesLine, rateLine, dateLine, kindLine, multiplierLine, codesLine, qualityLine}
+use Rattle.config_lines.specs.declared.Fault.{Fault}
+use Rattle.config_lines.specs.Lines.{firstLine, channelsLine, analogLine, statusLine, frequencyLine, ratesLine, rateLine, dateLine, kindLine, multiplierLine, codesLine, qualityLine}
 use Rattle.model.specs.declared.Refusal.{Refusal}
 use Rattle.model.specs.declared.Answer.the-variants.{Yes, No}
 use Rattle.model.specs.Refusals.{refused}
-use Rattle.rules.specs.declared.Config.{Config}
+use Rattle.config_rules.specs.declared.Config.{Config}
 use Rattle.config.specs.declared.ConfigAnswer.{ConfigAnswer}
 use Rattle.config.specs.Reading.{Place, Reader, saidOf, inLine, scanned, done, holds, line, lastLine, times}
 use Rattle.config.specs.Reading as paper

@@ -16,10 +16,10 @@ use native.Mathlib.Omega.{arith}
 use borrow.Author.Tests.{eq-eqb, eqb-true, lt-ltb, ltb-true, leb-true}
 use lib.Dec.{eqb, ltb, leb}
 use lib.IntN.{ℤ, pos}
-use Rattle.lists.specs.Said.{Said, says, _>>=_, _>>_, must}
-use Rattle.lists.proofs.Cases.{clash}
-use Rattle.lists.proofs.Every.{and-split}
-use Rattle.lists.proofs.SaidLaws.{must-holds, then-told, bind-told}
+use Rattle.ground.specs.Said.{Said, says, _>>=_, _>>_, must}
+use Rattle.ground.proofs.Cases.{clash}
+use Rattle.ground.proofs.Every.{and-split}
+use Rattle.ground.proofs.SaidLaws.{must-holds, then-told, bind-told}
 use Rattle.text.specs.Fields.{fieldCount, fieldAt}
 use Rattle.fields.specs.declared.Field.{Field}
 use Rattle.fields.specs.declared.Field.the-variants as field
@@ -40,12 +40,12 @@ use Rattle.clock.specs.declared.Code.the-variants as code
 use Rattle.clock.specs.Dates.{readDate}
 use Rattle.clock.specs.Times.{readTime}
 use Rattle.clock.specs.Codes.{codeIn, readCode, readLocalCode}
-use Rattle.lines.specs.declared.Fault.{Fault}
-use Rattle.lines.specs.Faults.{textFault, yearFault, indexFault, realFault, frequencyFault, aboveFault, rateFault, sideFault, stateFault}
-use Rattle.lines.specs.Lines.{fault, fields, fine, numberAt, limitAt, dateAt, timeAt, kindAt, codeAt, localAt, value, firstLine, channelsLine, names, scale, limits, analogLine, statusLine, frequencyLine, ratesLine, rateLine, dateLine, kindLine, multiplierLine, codesLine, qualityLine}
-use Rattle.lines.proofs.Laws.{number-told, date-told, time-told}
+use Rattle.config_lines.specs.declared.Fault.{Fault}
+use Rattle.config_lines.specs.Faults.{textFault, yearFault, indexFault, realFault, frequencyFault, aboveFault, rateFault, sideFault, stateFault}
+use Rattle.config_lines.specs.Lines.{fault, fields, fine, numberAt, limitAt, dateAt, timeAt, kindAt, codeAt, localAt, value, firstLine, channelsLine, names, scale, limits, analogLine, statusLine, frequencyLine, ratesLine, rateLine, dateLine, kindLine, multiplierLine, codesLine, qualityLine}
+use Rattle.config_lines.proofs.Laws.{number-told, date-told, time-told}
 use Rattle.model.specs.declared.Kind.{Kind}
-use Rattle.rules.specs.declared.Moment.{Moment}
+use Rattle.config_rules.specs.declared.Moment.{Moment}
 use Rattle.paper.specs.Fields.{isBetween, CountIn, Limits}
 use Rattle.paper.specs.Fields as paper
 use Rattle.paper.specs.Lines.{Fields, ChannelNames, StationLine, ChannelsLine, AnalogLine, StatusLine, FrequencyLine, RatesLine, rateSign, RateLine, DateLine, KindLine, MultiplierLine, LocalField, CodesLine, QualityLine}

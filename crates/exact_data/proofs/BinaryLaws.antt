@@ -12,13 +12,13 @@ use borrow.Author.Tests.{eq-eqb, eqb-true, lt-ltb, le-ltb}
 use lib.Dec.{eqb, ltb}
 use lib.IntN.{ℤ, pos}
 use lib.ListN.{length}
-use Rattle.lists.specs.Said.{says}
-use Rattle.lists.specs.Tables.{part, every}
-use Rattle.lists.proofs.Cases.{lt-or-ge}
-use Rattle.lists.proofs.Every.{every-piece}
-use Rattle.lists.proofs.Filled.{getD-padded}
-use Rattle.lists.proofs.Parts.{part-part}
-use Rattle.lists.proofs.Tables.{block-end, tab-ext, cat-ext, cat-part, part-cat}
+use Rattle.ground.specs.Said.{says}
+use Rattle.ground.specs.Tables.{part, every}
+use Rattle.ground.proofs.Cases.{lt-or-ge}
+use Rattle.ground.proofs.Every.{every-piece}
+use Rattle.ground.proofs.Filled.{getD-padded}
+use Rattle.ground.proofs.Parts.{part-part}
+use Rattle.ground.proofs.Tables.{block-end, tab-ext, cat-ext, cat-part, part-cat}
 use Rattle.words.specs.Words.{wordOf, isByte}
 use Rattle.words.proofs.WordLaws.{bytes-part, wordOf-part-lt}
 use Rattle.model.specs.declared.Layout.{Layout}
@@ -27,12 +27,12 @@ use Rattle.model.specs.Kinds.{widthOf, halfOf}
 use Rattle.model.specs.Layouts.{Sized}
 use Rattle.model.specs.Rows.{trimmed}
 use Rattle.model.proofs.KindLaws.{width-pos}
-use Rattle.binary.specs.Rows.{wordsOf, samplesEnd, rowSize, numberOfRow, samplesPart, wordsPart, sampleAt, wordAt, statusAt, paddingFree, rowCheck, rowOf, bytesOf}
-use Rattle.binary.proofs.SizeLaws.{sizes}
-use Rattle.binary.proofs.RowLaws as laws
-use Rattle.binaries.specs.Files.{rowBytes, checkBinary, binaryRow, binaryFile}
-use Rattle.binaries.proofs.Laws.{row-length, whole}
-use Rattle.binaries.proofs.FileLaws.{binary-accepted, row-there}
+use Rattle.binary_row.specs.Rows.{wordsOf, samplesEnd, rowSize, numberOfRow, samplesPart, wordsPart, sampleAt, wordAt, statusAt, paddingFree, rowCheck, rowOf, bytesOf}
+use Rattle.binary_row.proofs.SizeLaws.{sizes}
+use Rattle.binary_row.proofs.RowLaws as laws
+use Rattle.binary_file.specs.Files.{rowBytes, checkBinary, binaryRow, binaryFile}
+use Rattle.binary_file.proofs.Laws.{row-length, whole}
+use Rattle.binary_file.proofs.FileLaws.{binary-accepted, row-there}
 use Rattle.paper.specs.Data.{sampleOf, statusOf, lowFirst, TwosComplement, isOn, statusWord, BinaryRow, BinaryFile}
 use Rattle.exact_data.proofs.NumberLaws.{low-first, twos-exactly, padding-exactly}
 

@@ -17,10 +17,10 @@ use native.Mathlib.Omega.{arith}
 use borrow.Author.Tests.{eqb-true, eqb-false, le-leb, lt-leb}
 use lib.Dec.{eqb, leb}
 use lib.ListN.{length}
-use Rattle.lists.specs.Said.{says, refuses, _>>_, must}
-use Rattle.lists.specs.Tables.{every}
-use Rattle.lists.proofs.Cases.{on-test, lt-or-ge, clash}
-use Rattle.lists.proofs.Tables.{cat-ext}
+use Rattle.ground.specs.Said.{says, refuses, _>>_, must}
+use Rattle.ground.specs.Tables.{every}
+use Rattle.ground.proofs.Cases.{on-test, lt-or-ge, clash}
+use Rattle.ground.proofs.Tables.{cat-ext}
 use Rattle.words.specs.Words.{isByte}
 use Rattle.model.specs.declared.Kind.{Kind}
 use Rattle.model.specs.declared.Kind.the-variants.{Ascii, Binary, Binary32}
@@ -31,7 +31,7 @@ use Rattle.model.specs.Refusals.{refused}
 use Rattle.model.specs.Rows.{trimmed}
 use Rattle.model.proofs.FitLaws.{misfit-le, misfit-first}
 use Rattle.model.proofs.LayoutLaws.{sized-is, sized-in}
-use Rattle.texts.specs.Files.{mark}
+use Rattle.ascii_file.specs.Files.{mark}
 use Rattle.data.specs.Files.{byKind, fileFine, rowAt, bytesOf, misfitOf, endMark, fileOf}
 use Rattle.data.proofs.FileLaws as files
 use Rattle.data.proofs.FileLaws.{by-kind, Writes}

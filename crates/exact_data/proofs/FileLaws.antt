@@ -16,10 +16,10 @@ use mathlib.Core.List.{List}
 use Prim.Native.Nat.{ℕ, _+_, _-_, _<_, _≤_}
 use native.Mathlib.Omega.{arith}
 use borrow.Author.Tests.{le-leb}
-use Rattle.lists.specs.Said.{Said, says, refuses, _>>_, must}
-use Rattle.lists.specs.Tables.{every}
-use Rattle.lists.proofs.Cases.{lt-or-ge, clash}
-use Rattle.lists.proofs.SaidLaws.{must-told, then-told}
+use Rattle.ground.specs.Said.{Said, says, refuses, _>>_, must}
+use Rattle.ground.specs.Tables.{every}
+use Rattle.ground.proofs.Cases.{lt-or-ge, clash}
+use Rattle.ground.proofs.SaidLaws.{must-told, then-told}
 use Rattle.words.specs.Words.{isByte}
 use Rattle.model.specs.declared.Kind.{Kind}
 use Rattle.model.specs.declared.Kind.the-variants.{Ascii, Binary, Binary32}
@@ -32,8 +32,8 @@ use Rattle.model.specs.Layouts.{isSized, Sized}
 use Rattle.model.specs.Refusals.{refused}
 use Rattle.model.specs.Rows.{zeroRow}
 use Rattle.model.proofs.LayoutLaws.{sized, sized-is}
-use Rattle.binaries.specs.Files.{checkBinary, binaryRow}
-use Rattle.texts.specs.Files.{checkText, textRow}
+use Rattle.binary_file.specs.Files.{checkBinary, binaryRow}
+use Rattle.ascii_file.specs.Files.{checkText, textRow}
 use Rattle.data.specs.declared.RowAnswer.{RowAnswer}
 use Rattle.data.specs.Files.{fileFine, rowAt, hasRow, checkFile, rowAnswer, showRow}
 use Rattle.data.proofs.Laws.{text-kind, binary-kind, row-told, accepted-fine}

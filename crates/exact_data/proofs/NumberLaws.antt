@@ -17,19 +17,19 @@ use lib.Dec.{eqb, ltb}
 use lib.IntN.{ℤ, pos, negsuc, subℕ, _+ℤ_}
 use lib.Pow.{pow-mono, shr-shr, shr-lt}
 use lib.Signed.{ltZ, ltZ-no, ltZ-yes, clashℤ, _≤ℤ_}
-use Rattle.lists.specs.Tables.{tab, every}
-use Rattle.lists.proofs.Cases.{on-test, lt-or-ge, clash}
-use Rattle.lists.proofs.Every.{and-split, and-join}
-use Rattle.lists.proofs.Filled.{tab-front}
-use Rattle.lists.proofs.Tables.{tab-ext}
+use Rattle.ground.specs.Tables.{tab, every}
+use Rattle.ground.proofs.Cases.{on-test, lt-or-ge, clash}
+use Rattle.ground.proofs.Every.{and-split, and-join}
+use Rattle.ground.proofs.Filled.{tab-front}
+use Rattle.ground.proofs.Tables.{tab-ext}
 use Rattle.words.specs.Words.{wordOf, isByte}
 use Rattle.words.specs.Signed.{half, signedOf}
 use Rattle.words.proofs.WordLaws.{wordOf-part-lt}
 use Rattle.words.proofs.SignedLaws.{signed-low, signed-high, half-twice}
 use Rattle.model.specs.declared.Kind.{Kind}
 use Rattle.model.specs.Kinds.{lowestOf, highestOf, fitsKind}
-use Rattle.binary.specs.Rows.{wordsOf, wordAt, bitOf, statusAt, paddingFree, packed}
-use Rattle.binary.proofs.BitLaws.{packed-bits, lt-of-div}
+use Rattle.binary_row.specs.Rows.{wordsOf, wordAt, bitOf, statusAt, paddingFree, packed}
+use Rattle.binary_row.proofs.BitLaws.{packed-bits, lt-of-div}
 use Rattle.paper.specs.Data.{InRange, lowFirst, TwosComplement}
 
 pub low-first : (l : List ℕ) → lowFirst l ≡ wordOf l

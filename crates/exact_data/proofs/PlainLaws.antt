@@ -13,11 +13,11 @@ use native.Mathlib.Omega.{arith}
 use borrow.Author.Tests.{eq-eqb, ne-eqb, eqb-true, eqb-false, leb-true}
 use lib.Dec.{eqb, leb}
 use lib.ListN.{length, getD}
-use Rattle.lists.specs.Quoted.{quoted}
-use Rattle.lists.specs.Tables.{every}
-use Rattle.lists.proofs.Cases.{on-test, clash}
-use Rattle.lists.proofs.Every.{and-split, and-join}
-use Rattle.lists.proofs.Tables.{cat-ext}
+use Rattle.ground.specs.Quoted.{quoted}
+use Rattle.ground.specs.Tables.{every}
+use Rattle.ground.proofs.Cases.{on-test, clash}
+use Rattle.ground.proofs.Every.{and-split, and-join}
+use Rattle.ground.proofs.Tables.{cat-ext}
 use Rattle.text.specs.Fields.{fieldAt}
 use Rattle.numerals.specs.Counts.{isDigit}
 use Rattle.numerals.specs.Decimals.{isPlainCount, isPlain}
@@ -25,12 +25,12 @@ use Rattle.numerals.proofs.PlainLaws.{decimal-plain}
 use Rattle.numerals.proofs.WholeLaws as numbers
 use Rattle.model.specs.declared.Layout.{Layout}
 use Rattle.model.specs.declared.Row.{Row}
-use Rattle.ascii.specs.Rows.{fieldsOf}
-use Rattle.ascii.proofs.LineLaws.{line-told}
-use Rattle.plain.specs.Rows.{lineOf, textOf}
-use Rattle.plain.proofs.LineLaws.{line-bytes-plain, fields-line, number-field, time-field, sample-field}
-use Rattle.texts.specs.Files.{mark, textFile}
-use Rattle.texts.proofs.PlainLaws.{line-again}
+use Rattle.ascii_row.specs.Rows.{fieldsOf}
+use Rattle.ascii_row.proofs.LineLaws.{line-told}
+use Rattle.ascii_plain.specs.Rows.{lineOf, textOf}
+use Rattle.ascii_plain.proofs.LineLaws.{line-bytes-plain, fields-line, number-field, time-field, sample-field}
+use Rattle.ascii_file.specs.Files.{mark, textFile}
+use Rattle.ascii_file.proofs.PlainLaws.{line-again}
 use Rattle.paper.specs.Fields.{isBetween}
 use Rattle.paper.specs.Lines.{ended}
 use Rattle.paper.specs.Data.{sampleOf, TextLine, TextFile}

@@ -17,9 +17,9 @@ use borrow.Author.Tests.{lt-ltb, leb-true}
 use lib.Dec.{leb}
 use lib.ListN.{length}
 use lib.Seq.{drop-at, take-at}
-use Rattle.lists.specs.Tables.{cat, every}
-use Rattle.lists.proofs.Every.{and-split, every-append, every-cat, every-imply}
-use Rattle.lists.proofs.Tables.{cat-ext, cat-split}
+use Rattle.ground.specs.Tables.{cat, every}
+use Rattle.ground.proofs.Every.{and-split, every-append, every-cat, every-imply}
+use Rattle.ground.proofs.Tables.{cat-ext, cat-split}
 use Rattle.words.specs.Words.{isByte}
 use Rattle.model.specs.declared.Kind.{Kind}
 use Rattle.model.specs.declared.Kind.the-variants.{Ascii, Binary, Binary32}
@@ -29,15 +29,15 @@ use Rattle.model.specs.Layouts.{Sized}
 use Rattle.model.specs.Rows.{trimmed}
 use Rattle.model.proofs.FitLaws.{misfit-all, all-misfit}
 use Rattle.text.specs.Lines.{lineBytes}
-use Rattle.binary.specs.Rows as binary
-use Rattle.binary.proofs.SizeLaws.{sizes}
-use Rattle.binary.proofs.RowLaws as laws
-use Rattle.binaries.specs.Files.{rowBytes, binaryRow}
-use Rattle.ascii.specs.Rows.{rowOf}
-use Rattle.plain.specs.Rows.{lineOf, textOf}
-use Rattle.plain.proofs.LengthLaws.{line-most}
-use Rattle.plain.proofs.LineLaws.{line-bytes-plain}
-use Rattle.texts.proofs.RoundLaws.{line-fine, line-back}
+use Rattle.binary_row.specs.Rows as binary
+use Rattle.binary_row.proofs.SizeLaws.{sizes}
+use Rattle.binary_row.proofs.RowLaws as laws
+use Rattle.binary_file.specs.Files.{rowBytes, binaryRow}
+use Rattle.ascii_row.specs.Rows.{rowOf}
+use Rattle.ascii_plain.specs.Rows.{lineOf, textOf}
+use Rattle.ascii_plain.proofs.LengthLaws.{line-most}
+use Rattle.ascii_plain.proofs.LineLaws.{line-bytes-plain}
+use Rattle.ascii_file.proofs.RoundLaws.{line-fine, line-back}
 use Rattle.data.specs.Files.{bytesOf, misfitOf}
 use Rattle.data.proofs.FileLaws.{by-kind, Writes, fits-text, bytes-text, bytes-binary}
 use Rattle.paper.specs.Lines.{ended}

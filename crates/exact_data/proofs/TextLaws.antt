@@ -17,14 +17,14 @@ use lib.Dec.{eqb}
 use lib.IntN.{ℤ}
 use lib.ListN.{length, take, drop}
 use lib.Seq.{take-append-seam, drop-append-add, length-take-le}
-use Rattle.lists.specs.Choice.{if_then_else_}
-use Rattle.lists.specs.Quoted.{quoted}
-use Rattle.lists.specs.Said.{says}
-use Rattle.lists.specs.Tables.{cat}
-use Rattle.lists.proofs.Cases.{clash}
-use Rattle.lists.proofs.Every.{and-split}
-use Rattle.lists.proofs.SaidLaws.{must-holds, bind-told}
-use Rattle.lists.proofs.Tables.{tab-ext, cat-front, cat-ext}
+use Rattle.ground.specs.Choice.{if_then_else_}
+use Rattle.ground.specs.Quoted.{quoted}
+use Rattle.ground.specs.Said.{says}
+use Rattle.ground.specs.Tables.{cat}
+use Rattle.ground.proofs.Cases.{clash}
+use Rattle.ground.proofs.Every.{and-split}
+use Rattle.ground.proofs.SaidLaws.{must-holds, bind-told}
+use Rattle.ground.proofs.Tables.{tab-ext, cat-front, cat-ext}
 use Rattle.text.specs.declared.Scanned.the-variants as scanned
 use Rattle.text.specs.Lines.{lineBytes}
 use Rattle.text.specs.Fields.{fieldCount, afterFields, fieldAt}
@@ -34,16 +34,16 @@ use Rattle.model.specs.declared.Layout.{Layout}
 use Rattle.model.specs.declared.Row.{Row}
 use Rattle.model.specs.Refusals.{refused}
 use Rattle.model.specs.Rows.{trimmed}
-use Rattle.ascii.specs.Fields.{readTime, readSample, timeIn, sampleIn, statusIn}
-use Rattle.ascii.specs.Rows.{fieldsOf, checkLine, sampleAt, statusAt, rowOf}
-use Rattle.ascii.proofs.FieldLaws.{time-below, time-read, sample-fits, sample-read}
-use Rattle.ascii.proofs.WalkLaws.{time-fine, sample-fine}
-use Rattle.ascii.proofs.LineLaws.{FineLine, line-told, line-is, sample-at, status-at, sample-there, status-there, row-trimmed}
-use Rattle.plain.specs.Rows.{statusChar}
-use Rattle.texts.specs.Files.{scanRow, checkRow, isEnding, checkRows, checkText, lineTaken, firstLine, afterRows, textRow}
-use Rattle.texts.proofs.Laws.{row-fine}
-use Rattle.texts.proofs.RoundLaws.{status-back}
-use Rattle.texts.proofs.PlainLaws.{status-again}
+use Rattle.ascii_row.specs.Fields.{readTime, readSample, timeIn, sampleIn, statusIn}
+use Rattle.ascii_row.specs.Rows.{fieldsOf, checkLine, sampleAt, statusAt, rowOf}
+use Rattle.ascii_row.proofs.FieldLaws.{time-below, time-read, sample-fits, sample-read}
+use Rattle.ascii_row.proofs.WalkLaws.{time-fine, sample-fine}
+use Rattle.ascii_row.proofs.LineLaws.{FineLine, line-told, line-is, sample-at, status-at, sample-there, status-there, row-trimmed}
+use Rattle.ascii_plain.specs.Rows.{statusChar}
+use Rattle.ascii_file.specs.Files.{scanRow, checkRow, isEnding, checkRows, checkText, lineTaken, firstLine, afterRows, textRow}
+use Rattle.ascii_file.proofs.Laws.{row-fine}
+use Rattle.ascii_file.proofs.RoundLaws.{status-back}
+use Rattle.ascii_file.proofs.PlainLaws.{status-again}
 use Rattle.paper.specs.Fields.{CountField}
 use Rattle.paper.specs.Lines.{ended}
 use Rattle.paper.specs.Data.{sampleOf, statusOf, SampleField, TextLine, TextEnding, TextFile}

@@ -7,7 +7,7 @@ use mathlib.Core.List.{List, [], _∷_}
 use Prim.Native.Nat.{ℕ, suc}
 use lib.Dec.{eqb}
 use lib.ListN.{length}
-use Rattle.lists.proofs.Cases.{on-test}
+use Rattle.ground.proofs.Cases.{on-test}
 use Rattle.fields.specs.Fields.{small, sameWord}
 
 pub other-length : (w l : List ℕ) → (length w ≡ length l → ⊥) → sameWord w l ≡ false

@@ -4,8 +4,8 @@ use mathlib.Core.List.{List, [], _∷_}
 use Prim.Native.Nat.{ℕ, _+_, _-_}
 use lib.Dec.{eqb, ltb}
 use lib.ListN.{length, getD, take}
-use Rattle.lists.specs.Choice.{if_then_else_}
-use Rattle.lists.specs.Quoted.{quoted}
+use Rattle.ground.specs.Choice.{if_then_else_}
+use Rattle.ground.specs.Quoted.{quoted}
 use Rattle.numerals.specs.declared.Count.{Count}
 use Rattle.numerals.specs.declared.Count.the-variants as count
 use Rattle.numerals.specs.Counts.{lengthIn, numberOf, readCount}

@@ -1,5 +1,5 @@
 // Lists a recording on its standard output: the two arguments name the configuration and the data file.
-// What it prints is the text that the crate `listing` puts, which is proved; a file that can't be read, and wrong arguments, are one line on standard error.
+// What it prints is the text that the crate `list_text` puts, which is proved; a file that can't be read, and wrong arguments, are one line on standard error.
 use libc::STDERR_FILENO;
 use libc::STDOUT_FILENO;
 ghost use mathlib.Core.Path.{_≡_};
@@ -82,8 +82,8 @@ fn read_argument(what: &[u8], i: usize, room: &mut [u8]) -> Got
 
 // Prints the listing.
 fn print(cfg: &[u8], dat: &[u8]) {
-    let mut out = [0u8; listing::ROOM];
-    let n = listing::put_listing(cfg, dat, &mut out);
+    let mut out = [0u8; list_text::ROOM];
+    let n = list_text::put_listing(cfg, dat, &mut out);
     if !io::write_all(STDOUT_FILENO, &out[..n]) {
         os::fail(b"list: standard output");
     }

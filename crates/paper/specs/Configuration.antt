@@ -6,12 +6,12 @@ use mathlib.Core.List.{List, [], _∷_, _++_}
 use Prim.Native.Nat.{ℕ, zero, suc, _+_, _-_, _*_, _≤_, _<_, max}
 use lib.IntN.{pos, _+ℤ_, _*ℤ_}
 use lib.ListN.{length, replicate, take}
-use Rattle.lists.specs.Quoted.{quoted}
+use Rattle.ground.specs.Quoted.{quoted}
 use Rattle.clock.specs.declared.Date.{Date}
 use Rattle.clock.specs.declared.Span.{Span}
 use Rattle.reals.specs.declared.Real.{Real}
-use Rattle.rules.specs.declared.Moment.{Moment}
-use Rattle.rules.specs.declared.Config.{Config}
+use Rattle.config_rules.specs.declared.Moment.{Moment}
+use Rattle.config_rules.specs.declared.Config.{Config}
 use Rattle.paper.specs.Fields.{monthLengths}
 use Rattle.paper.specs.Lines.{Line, ended, StationLine, ChannelsLine, AnalogLine, StatusLine, FrequencyLine, RatesLine, rateSign, RateLine, DateLine, KindLine, MultiplierLine, CodesLine, QualityLine}
 

@@ -10,9 +10,9 @@ use lib.Dec.{eqb, leb}
 use lib.IntN.{ℤ, pos, negℤ, natAbs}
 use lib.ListN.{length, getD, replicate}
 use lib.Signed.{_≤ℤ_}
-use Rattle.lists.specs.Choice.{if_then_else_}
-use Rattle.lists.specs.Quoted.{quoted}
-use Rattle.lists.specs.Tables.{every}
+use Rattle.ground.specs.Choice.{if_then_else_}
+use Rattle.ground.specs.Quoted.{quoted}
+use Rattle.ground.specs.Tables.{every}
 use Rattle.clock.specs.declared.Date.{Date}
 use Rattle.clock.specs.declared.Time.{Time}
 use Rattle.reals.specs.declared.Real.{Real}

@@ -6,12 +6,12 @@ use mathlib.Core.List.{List, [], _++_}
 use Prim.Native.Nat.{ℕ, zero, suc, _+_, _-_, _≤_, _<_}
 use lib.Dec.{eqb}
 use lib.IntN.{ℤ, pos}
-use Rattle.lists.specs.Quoted.{quoted}
-use Rattle.lists.specs.Tables.{cat, every}
+use Rattle.ground.specs.Quoted.{quoted}
+use Rattle.ground.specs.Tables.{cat, every}
 use Rattle.reals.specs.declared.Real.{Real}
 use Rattle.reals.specs.declared.Real.the-variants as real
 use Rattle.model.specs.declared.Kind.{Kind}
-use Rattle.rules.specs.declared.Moment.{Moment}
+use Rattle.config_rules.specs.declared.Moment.{Moment}
 use Rattle.paper.specs.Fields.{TextField, isBetween, CountField, CountIn, Lettered, RealField, AnyReal, Limits, DateText, TimeText, KindWord, CodeField, XField, QualityField, LeapField}
 
 -- a line: bytes 32 to 126, and it is P

@@ -8,8 +8,8 @@ use Prim.Native.Nat.{ℕ, _+_, _<_, _≤_}
 use native.Mathlib.Omega.{arith}
 use lib.ListN.{length, drop, set, length-set}
 use lib.Seq.{drop-length}
-use Rattle.lists.specs.Tables.{tab}
-use Rattle.lists.proofs.Tables.{tab-set}
+use Rattle.ground.specs.Tables.{tab}
+use Rattle.ground.proofs.Tables.{tab-set}
 
 -- the first i places of d are f 0, f 1, .. , and the rest is as it was
 abbrev pub Filled : {A : Type 0} → (ℕ → A) → List A → ℕ → List A → Type 0

@@ -15,11 +15,11 @@ use lib.IntN.{ℤ, pos, negsuc, natAbs}
 use lib.ListN.{length, getD, take, drop, replicate, List·getD-append}
 use lib.Seq.{getD-take, getD-drop, getD-append-add}
 use lib.Signed.{ltZ}
-use Rattle.lists.specs.Tables.{part, tab, padded}
-use Rattle.lists.proofs.Every.{and-split}
-use Rattle.lists.proofs.Parts.{length-part}
-use Rattle.lists.proofs.Tables.{tab-ext, length-tab, getD-tab, tab-take}
-use Rattle.lists.proofs.Filled.{tab-front, tab-split, getD-padded}
+use Rattle.ground.specs.Tables.{part, tab, padded}
+use Rattle.ground.proofs.Every.{and-split}
+use Rattle.ground.proofs.Parts.{length-part}
+use Rattle.ground.proofs.Tables.{tab-ext, length-tab, getD-tab, tab-take}
+use Rattle.ground.proofs.Filled.{tab-front, tab-split, getD-padded}
 use Rattle.model.specs.declared.Layout.{Layout}
 use Rattle.model.specs.declared.Row.{Row}
 use Rattle.model.specs.Rows.{trimmed}

@@ -15,9 +15,9 @@ use lib.IntN.{ℤ, pos, negsuc, natAbs}
 use lib.ListN.{getD}
 use lib.Signed.{ltZ, mag}
 use borrow.Author.Tests.{ltb-false, le-ltb, le-leb, not-true}
-use Rattle.lists.specs.Choice.{if_then_else_}
-use Rattle.lists.proofs.Cases.{on-test}
-use Rattle.lists.proofs.Every.{and-split}
+use Rattle.ground.specs.Choice.{if_then_else_}
+use Rattle.ground.proofs.Cases.{on-test}
+use Rattle.ground.proofs.Every.{and-split}
 use Rattle.model.specs.declared.Layout.{Layout}
 use Rattle.model.specs.Kinds.{fitsKind}
 use Rattle.model.proofs.KindLaws.{fits-size, half-le}

@@ -3,10 +3,10 @@ use mathlib.Core.List.{List, [], _∷_, _++_}
 use Prim.Native.Nat.{ℕ}
 use lib.IntN.{ℤ, pos}
 use lib.ListN.{getD}
-use Rattle.lists.specs.Tables.{tab}
+use Rattle.ground.specs.Tables.{tab}
 use Rattle.model.specs.Kinds.{numberOf}
-use Rattle.rules.specs.declared.Config.{Config}
-use Rattle.rules.specs.declared.Moment.{Moment}
+use Rattle.config_rules.specs.declared.Config.{Config}
+use Rattle.config_rules.specs.declared.Moment.{Moment}
 use Rattle.places.specs.Rows.{statusPlace}
 
 -- channels, rates and rows

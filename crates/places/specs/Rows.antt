@@ -7,8 +7,8 @@ use lib.Dec.{ltb, leb}
 use lib.IntN.{ℤ, pos, natAbs}
 use lib.ListN.{getD}
 use lib.Signed.{ltZ}
-use Rattle.lists.specs.Choice.{if_then_else_}
-use Rattle.lists.specs.Tables.{tab, padded}
+use Rattle.ground.specs.Choice.{if_then_else_}
+use Rattle.ground.specs.Tables.{tab, padded}
 use Rattle.model.specs.declared.Layout.{Layout}
 use Rattle.model.specs.declared.Row.{Row}
 use Rattle.model.specs.Kinds.{fitsKind}

@@ -1,10 +1,10 @@
 // Rows and configurations as places: whole numbers of 64 bits, as the exported calls show and take them.
 // Each function gives exactly what the definition of its name says; the laws of proofs/ say that a row is read back from the places that show it.
+use config_rules::Config;
+use config_rules::Moment;
 use model::Kind;
 use model::Layout;
 use model::Row;
-use rules::Config;
-use rules::Moment;
 ghost use mathlib.Core.Path.{_≡_};
 ghost use mathlib.Core.Bool.{false};
 ghost use mathlib.Core.List.{_∷_, _++_};
@@ -12,7 +12,7 @@ ghost use Prim.Native.Nat.{_+_, _≤_, _<_, _^_};
 ghost use lib.IntN.{pos};
 ghost use lib.ListN.{length, getD};
 ghost use lib.Signed.{mag, ltZ};
-ghost use Rattle.lists.specs.Tables.{tab, padded};
+ghost use Rattle.ground.specs.Tables.{tab, padded};
 ghost use Rattle.model.specs.Layouts.{Sized};
 ghost use Rattle.places.specs.Rows.{placesOf, statusPlace, rowPlaces, upTo, fitsPlace, unfit, rowOf};
 ghost use Rattle.places.specs.Configs.{countPlaces, lastPlaces, momentPlaces, otherPlaces, configPlaces};

@@ -3,7 +3,7 @@
 -- Assumes nothing.
 use mathlib.Core.Path.{_≡_, refl}
 use mathlib.Core.Bool.{Bool, true, false}
-use Rattle.lists.specs.Quoted.{quoted}
+use Rattle.ground.specs.Quoted.{quoted}
 use Rattle.numerals.specs.Counts.{lengthIn, isDigit, numberOf}
 use Rattle.numerals.specs.Wholes.{signLength, hasMinus}
 use Rattle.reals.specs.declared.Real.the-variants as real

@@ -10,7 +10,7 @@ use Prim.Native.Nat.{ℕ, _+_, _-_, _^_, _≤_}
 use native.Mathlib.Omega.{arith}
 use lib.Dec.{ltb, eqb}
 use lib.ListN.{length, drop, length-drop}
-use Rattle.lists.proofs.Cases.{on-test, clash}
+use Rattle.ground.proofs.Cases.{on-test, clash}
 use Rattle.numerals.specs.declared.Count.{Count}
 use Rattle.numerals.specs.declared.Count.the-variants.{Is, Form}
 use Rattle.numerals.specs.Counts.{lengthIn, isDigit, Below}

@@ -10,7 +10,7 @@ use mathlib.Core.List.{List, [], _∷_}
 use Prim.Native.Nat.{ℕ, _+_, _-_, _*_, _^_, _≤_, _<_}
 use native.Mathlib.Omega.{arith}
 use lib.ListN.{length, take, drop, length-take, length-drop}
-use Rattle.lists.proofs.Cases.{on-test, clash}
+use Rattle.ground.proofs.Cases.{on-test, clash}
 use Rattle.numerals.specs.declared.Count.{Count}
 use Rattle.numerals.specs.declared.Count.the-variants as count
 use Rattle.numerals.specs.Counts.{lengthIn, isDigit, leadingSpaces}

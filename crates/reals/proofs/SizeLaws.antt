@@ -19,7 +19,7 @@ use lib.ListN.{length, length-append}
 use lib.Pow.{pow-add}
 use lib.Signed.{ltZ}
 use borrow.Author.Tests.{ltb-true, ltb-false, leb-true, leb-false, le-leb, lt-leb, lt-ltb, le-ltb}
-use Rattle.lists.proofs.Cases.{on-test, lt-or-ge}
+use Rattle.ground.proofs.Cases.{on-test, lt-or-ge}
 use Rattle.numerals.specs.Decimals.{decimal}
 use Rattle.numerals.proofs.DecimalLaws.{decimal-one, decimal-more}
 use Rattle.reals.specs.declared.Exact.{Exact}

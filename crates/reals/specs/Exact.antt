@@ -6,7 +6,7 @@ use lib.Dec.{leb}
 use lib.IntN.{ℤ, pos, negℤ}
 use lib.ListN.{take, drop}
 use lib.Signed.{ltZ}
-use Rattle.lists.specs.Choice.{if_then_else_}
+use Rattle.ground.specs.Choice.{if_then_else_}
 use Rattle.numerals.specs.declared.Count.{Count}
 use Rattle.numerals.specs.declared.Count.the-variants as count
 use Rattle.numerals.specs.Counts.{lengthIn, isDigit, leadingSpaces}

@@ -6,7 +6,7 @@ use mathlib.Core.Path.{_≡_}
 use mathlib.Core.List.{List}
 use Prim.Native.Nat.{ℕ}
 use lib.ListN.{length}
-use Rattle.lists.specs.Said.{says, refuses, over}
+use Rattle.ground.specs.Said.{says, refuses, over}
 use Rattle.model.specs.declared.Written.{Written}
 use Rattle.model.specs.declared.Written.the-variants.{No}
 use Rattle.model.specs.Refusals.{refused, writtenOf, FewBytes}

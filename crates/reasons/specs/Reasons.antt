@@ -3,9 +3,9 @@ use mathlib.Core.List.{List}
 use Prim.Native.Nat.{ℕ}
 use lib.Dec.{eqb, leb}
 use lib.ListN.{length}
-use Rattle.lists.specs.Choice.{if_then_else_}
-use Rattle.lists.specs.Quoted.{quoted}
-use Rattle.lists.specs.Said.{Said, says, refuses, _>>=_, _>>_, must}
+use Rattle.ground.specs.Choice.{if_then_else_}
+use Rattle.ground.specs.Quoted.{quoted}
+use Rattle.ground.specs.Said.{Said, says, refuses, _>>=_, _>>_, must}
 use Rattle.model.specs.declared.Refusal.{Refusal}
 use Rattle.model.specs.Refusals.{refused}
 

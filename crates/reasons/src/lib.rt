@@ -4,7 +4,7 @@ use model::Written;
 ghost use mathlib.Core.Path.{_≡_};
 ghost use Prim.Native.Nat.{_≤_};
 ghost use lib.ListN.{length};
-ghost use Rattle.lists.specs.Said.{over};
+ghost use Rattle.ground.specs.Said.{over};
 ghost use Rattle.model.specs.Refusals.{writtenOf, FewBytes};
 ghost use Rattle.reasons.specs.Reasons.{textSaid, reasonSaid};
 

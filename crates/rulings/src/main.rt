@@ -1,8 +1,8 @@
 // Runs the configuration reader on the cases of its standard input and prints what it found: one line for each case, with the number and place at its end.
 // A case is a number that names the rule, a line of the 13-line recording below, and what stands in that line's place, with the escapes of the crate `cases`.
+use config_rules::Config;
 use libc::STDIN_FILENO;
 use model::Answer;
-use rules::Config;
 
 // What follows a line's CR, or the next line's.
 fn others<'a>(s: &'a [u8], skip: bool) -> &'a [u8] {

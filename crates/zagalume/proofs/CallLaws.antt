@@ -11,10 +11,10 @@ use Prim.Native.Nat.{ℕ, _<_, _≤_, _^_}
 use native.Mathlib.Omega.{arith}
 use lib.IntN.{ℤ, pos}
 use lib.ListN.{length, getD, length-append}
-use Rattle.lists.specs.Said.{Said, says, refuses}
-use Rattle.lists.specs.Tables.{tab}
-use Rattle.lists.proofs.Tables.{length-tab}
-use Rattle.lists.proofs.Cases.{on-test}
+use Rattle.ground.specs.Said.{Said, says, refuses}
+use Rattle.ground.specs.Tables.{tab}
+use Rattle.ground.proofs.Tables.{length-tab}
+use Rattle.ground.proofs.Cases.{on-test}
 use Rattle.model.specs.declared.Answer.the-variants as answer
 use Rattle.model.specs.declared.Kind.the-variants.{Ascii}
 use Rattle.model.specs.declared.Layout.{Layout}
@@ -28,11 +28,11 @@ use Rattle.model.specs.Layouts.{isSized, Sized}
 use Rattle.model.proofs.AnswerLaws.{written-told}
 use Rattle.model.proofs.LayoutLaws.{sized}
 use Rattle.model.proofs.FitLaws.{misfit-all}
-use Rattle.rules.specs.declared.Config.{Config}
-use Rattle.binary.specs.Rows.{rowSize}
-use Rattle.binary.proofs.SizeLaws.{size-le}
-use Rattle.plain.specs.Rows.{textLength}
-use Rattle.plain.proofs.LengthLaws.{text-line, line-most}
+use Rattle.config_rules.specs.declared.Config.{Config}
+use Rattle.binary_row.specs.Rows.{rowSize}
+use Rattle.binary_row.proofs.SizeLaws.{size-le}
+use Rattle.ascii_plain.specs.Rows.{textLength}
+use Rattle.ascii_plain.proofs.LengthLaws.{text-line, line-most}
 use Rattle.data.specs.Files.{showRow, misfitOf, writeSaid}
 use Rattle.data.specs.Inner.{lengthOf}
 use Rattle.data.proofs.Laws.{text-kind, binary-kind, writable}

@@ -4,7 +4,7 @@ use Prim.Native.Nat.{ℕ, _+_}
 use lib.Dec.{eqb, leb}
 use lib.IntN.{ℤ}
 use lib.ListN.{length}
-use Rattle.lists.specs.Said.{Said, says, refuses, _>>=_, _>>_, must}
+use Rattle.ground.specs.Said.{Said, says, refuses, _>>=_, _>>_, must}
 use Rattle.model.specs.declared.Kind.{Kind}
 use Rattle.model.specs.declared.KindNo.{KindNo}
 use Rattle.model.specs.declared.KindNo.the-variants as number
@@ -16,7 +16,7 @@ use Rattle.model.specs.declared.Answer.the-variants as answer
 use Rattle.model.specs.Kinds.{kindOf}
 use Rattle.model.specs.Layouts.{isSized}
 use Rattle.model.specs.Refusals.{refused}
-use Rattle.rules.specs.declared.Config.{Config}
+use Rattle.config_rules.specs.declared.Config.{Config}
 use Rattle.config.specs.declared.ConfigAnswer.{ConfigAnswer}
 use Rattle.config.specs.Config.{readConfig}
 use Rattle.data.specs.declared.RowAnswer.{RowAnswer}

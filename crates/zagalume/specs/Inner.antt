@@ -1,5 +1,5 @@
 -- NOTHING TO BELIEVE HERE: what the exported answer is of an answer of the calls below. The laws `counted-written` and `counted-needed` (proofs/CallLaws.antt) tie it to what those say.
-use Rattle.lists.specs.Said.{says, _>>_}
+use Rattle.ground.specs.Said.{says, _>>_}
 use Rattle.model.specs.declared.Answer.{Answer}
 use Rattle.model.specs.declared.Written.{Written}
 use Rattle.model.specs.declared.Written.the-variants.{Bytes, No}

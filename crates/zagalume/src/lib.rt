@@ -1,5 +1,6 @@
 // The exported calls, on plain numbers and lent slices: what C and Rust link.
 // Each answers every combination of its arguments, and gives exactly what the definition of its name says; a refusal changes no lent place or byte.
+use config_rules::Config;
 use model::Answer;
 use model::Kind;
 use model::KindNo;
@@ -7,10 +8,9 @@ use model::Layout;
 use model::Refusal;
 use model::Row;
 use model::Written;
-use rules::Config;
 ghost use mathlib.Core.Path.{_≡_};
 ghost use lib.ListN.{length};
-ghost use Rattle.lists.specs.Said.{over};
+ghost use Rattle.ground.specs.Said.{over};
 ghost use Rattle.model.specs.Layouts.{Sized};
 ghost use Rattle.model.specs.Refusals.{FewBytes};
 ghost use Rattle.places.specs.Rows.{placesOf, rowPlaces};

@@ -3,8 +3,8 @@ use mathlib.Core.Path.{_≡_, sym, _∙_}
 use Prim.Native.Nat.{_*_, _<_, _^_}
 use native.Mathlib.Omega.{arith}
 use Rattle.model.proofs.AnswerLaws.{yes-told, no-told}
-use Rattle.binary.specs.Rows.{rowSize}
-use Rattle.binaries.proofs.Laws.{whole}
+use Rattle.binary_row.specs.Rows.{rowSize}
+use Rattle.binary_file.proofs.Laws.{whole}
 use Rattle.recode.specs.Inner.{fitFrom}
 use Rattle.model.specs.Layouts.{inKind}
 use Rattle.change.specs.Inner.{settleBinary}

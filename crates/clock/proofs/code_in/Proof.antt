@@ -1,6 +1,6 @@
 -- `code_in` meets its contract.
 use borrow.Author.Tests.{not-true, not-false}
-use Rattle.lists.proofs.Walk.{rest}
+use Rattle.ground.proofs.Walk.{rest}
 use Rattle.clock.specs.Codes.{codeIn}
 use Rattle.numerals.proofs.CountLaws.{spaces-within}
 use borrow.Author.Needs.{needs}

@@ -1,5 +1,5 @@
 -- `code_of` meets its contract.
-use Rattle.lists.proofs.Walk.{rest}
+use Rattle.ground.proofs.Walk.{rest}
 use Rattle.clock.specs.Codes.{codeOf}
 use Rattle.numerals.proofs.CountLaws.{sign-within}
 use borrow.Author.Needs.{needs}

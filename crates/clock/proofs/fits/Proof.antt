@@ -6,7 +6,7 @@ use borrow.Author.Needs.{needs}
 use native.Mathlib.Omega.{arith}
 use borrow.Author.Tests.{not-true, not-false}
 use lib.ListN.{length, drop}
-use Rattle.lists.proofs.Walk.{here, done}
+use Rattle.ground.proofs.Walk.{here, done}
 use Rattle.clock.specs.Patterns.{fits}
 use Rattle.clock.proofs.PatternLaws.{fits-apart}
 use Rattle.clock.proofs.fits.Statement.{statement}

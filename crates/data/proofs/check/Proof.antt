@@ -1,8 +1,8 @@
 -- `check` meets its contract: a layout within the sizes, and then what the file says by its kind.
 use Rattle.data.proofs.Laws.{binary-arm}
 use Rattle.data.specs.Files.{fileFine, checkFile}
-use Rattle.binaries.specs.Files.{checkBinary}
-use Rattle.texts.specs.Files.{checkText}
+use Rattle.binary_file.specs.Files.{checkBinary}
+use Rattle.ascii_file.specs.Files.{checkText}
 use Rattle.model.proofs.LayoutLaws.{sized}
 use Rattle.model.specs.Layouts.{isSized}
 use borrow.Author.Tests.{not-true, not-false}

@@ -2,8 +2,8 @@
 use Rattle.data.proofs.Laws.{binary-arm}
 use Rattle.data.specs.Files.{bytesOf, misfitOf}
 use Rattle.data.specs.Inner.{lengthOf}
-use Rattle.plain.specs.Rows as plain
-use Rattle.binary.specs.Rows as binary
+use Rattle.ascii_plain.specs.Rows as plain
+use Rattle.binary_row.specs.Rows as binary
 use mathlib.Core.Path.{sym, _∙_}
 use borrow.Author.Needs.{needs}
 use Rattle.data.proofs.put_row.Statement.{statement}

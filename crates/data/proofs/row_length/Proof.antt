@@ -1,8 +1,8 @@
 -- `row_length` meets its contract: the length is the kind's.
 use Rattle.data.proofs.Laws.{binary-arm}
 use Rattle.data.specs.Inner.{lengthOf}
-use Rattle.plain.specs.Rows.{textLength}
-use Rattle.binary.specs.Rows.{rowSize}
+use Rattle.ascii_plain.specs.Rows.{textLength}
+use Rattle.binary_row.specs.Rows.{rowSize}
 use borrow.Author.Needs.{needs}
 use Rattle.data.proofs.row_length.Statement.{statement}
 use Rattle.data.proofs.row_length.Tie as tie

@@ -1,8 +1,8 @@
 -- `show_binary` meets its contract: the row of a file that is fine, or what its check refuses.
-use Rattle.binaries.proofs.Laws.{whole}
-use Rattle.binaries.specs.Files.{checkBinary}
+use Rattle.binary_file.proofs.Laws.{whole}
+use Rattle.binary_file.specs.Files.{checkBinary}
 use Rattle.model.proofs.AnswerLaws.{yes-told, no-told}
-use Rattle.lists.specs.Said.{says}
+use Rattle.ground.specs.Said.{says}
 use mathlib.Core.Path.{_≡_, sym, _∙_}
 use borrow.Author.Needs.{needs}
 use Rattle.data.proofs.show_binary.Statement.{statement}

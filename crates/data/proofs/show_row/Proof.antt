@@ -1,8 +1,8 @@
 -- `show_row` meets its contract: a layout within the sizes, a row that there is, and then the row by the kind.
 use Rattle.data.proofs.Laws.{binary-arm, row-told}
 use Rattle.data.specs.Files.{fileFine, rowAt, hasRow, showRow}
-use Rattle.binaries.specs.Files.{checkBinary, binaryRow}
-use Rattle.texts.specs.Files.{checkText, textRow}
+use Rattle.binary_file.specs.Files.{checkBinary, binaryRow}
+use Rattle.ascii_file.specs.Files.{checkText, textRow}
 use Rattle.model.proofs.LayoutLaws.{sized}
 use Rattle.model.specs.Layouts.{isSized, Sized}
 use borrow.Author.Tests.{not-true, not-false}

@@ -1,7 +1,7 @@
 -- `show_text` meets its contract: the row of a file that is fine, or what its check refuses.
-use Rattle.texts.specs.Files.{checkText}
+use Rattle.ascii_file.specs.Files.{checkText}
 use Rattle.model.proofs.AnswerLaws.{yes-told, no-told}
-use Rattle.lists.specs.Said.{says}
+use Rattle.ground.specs.Said.{says}
 use mathlib.Core.Path.{_≡_, sym, _∙_}
 use borrow.Author.Needs.{needs}
 use Rattle.data.proofs.show_text.Statement.{statement}

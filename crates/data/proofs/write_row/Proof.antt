@@ -5,8 +5,8 @@ use Prim.Native.Nat.{ℕ, _≤_}
 use native.Mathlib.Omega.{arith}
 use lib.ListN.{length, take}
 use lib.Seq.{length-take-le}
-use Rattle.lists.specs.Said.{says}
-use Rattle.lists.proofs.SaidLaws.{filled-told, no-byte}
+use Rattle.ground.specs.Said.{says}
+use Rattle.ground.proofs.SaidLaws.{filled-told, no-byte}
 use Rattle.model.proofs.AnswerLaws.{written-told, unwritten-told}
 use Rattle.data.specs.Files.{writeSaid}
 use Rattle.data.proofs.Laws.{Writable, writable}

@@ -5,7 +5,7 @@ use borrow.Author.Needs.{needs}
 use native.Mathlib.Omega.{arith}
 use borrow.Author.Tests.{eq-eqb, ne-eqb}
 use lib.ListN.{length, drop}
-use Rattle.lists.proofs.Walk.{here, done}
+use Rattle.ground.proofs.Walk.{here, done}
 use Rattle.fields.specs.Fields.{isAmong}
 use Rattle.fields.proofs.is_among.Statement.{statement}
 use Rattle.fields.proofs.is_among.Tie as tie

@@ -4,7 +4,7 @@ use Prim.Native.Nat.{_≤_, _-_}
 use native.Mathlib.Omega.{arith}
 use borrow.Author.Tests.{eq-eqb, ne-eqb}
 use lib.ListN.{length, drop}
-use Rattle.lists.proofs.Walk.{here, done}
+use Rattle.ground.proofs.Walk.{here, done}
 use Rattle.fields.specs.Fields.{sameWord}
 use Rattle.fields.proofs.Laws.{other-length}
 use borrow.Author.Needs.{needs}

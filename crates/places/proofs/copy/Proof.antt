@@ -2,7 +2,7 @@
 use Rattle.places.proofs.FillLaws.{Filled, fill-next, filled}
 use mir.Syntax.{w64}
 use lib.IntN.{pos}
-use Rattle.lists.proofs.Tables.{tab-getD}
+use Rattle.ground.proofs.Tables.{tab-getD}
 use mir.ValLaws.{toZ-ofZ}
 use native.Mathlib.Omega.{arith}
 use Prim.Native.Nat.{_-_}

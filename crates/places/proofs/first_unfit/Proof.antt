@@ -8,7 +8,7 @@ use lib.IntN.{pos}
 use lib.ListN.{length, getD}
 use mir.Syntax.{w64}
 use mir.ValLaws.{toZ-ofZ}
-use Rattle.lists.specs.Choice.{if_then_else_}
+use Rattle.ground.specs.Choice.{if_then_else_}
 use Rattle.places.specs.Rows.{fitsPlace, unfitFrom, unfit}
 use Rattle.places.proofs.UnfitLaws.{unfit-step}
 use borrow.Author.Needs.{needs}

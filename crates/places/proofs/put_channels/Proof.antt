@@ -5,9 +5,9 @@ use native.Mathlib.Omega.{arith}
 use mathlib.Core.List.{_∷_, _++_}
 use lib.IntN.{pos}
 use lib.ListN.{length, take, drop}
-use Rattle.lists.specs.Tables.{part}
+use Rattle.ground.specs.Tables.{part}
 use lib.Seq.{length-take-le}
-use Rattle.lists.proofs.Parts.{halves, half-length}
+use Rattle.ground.proofs.Parts.{halves, half-length}
 use native.Mathlib.Nat.{le-trans, le-of-eq}
 use Rattle.places.specs.Rows.{rowPlaces}
 use borrow.Author.Needs.{needs}

@@ -6,8 +6,8 @@ use lib.ListN.{length, length-set, length-drop}
 use mir.ValLaws.{toZ-ofZ}
 use mir.Syntax.{w64}
 use mir.Val.{toZ, ofZ}
-use Rattle.lists.proofs.Walk.{rest}
-use Rattle.lists.proofs.Parts.{put-first}
+use Rattle.ground.proofs.Walk.{rest}
+use Rattle.ground.proofs.Parts.{put-first}
 use native.Mathlib.Omega.{arith}
 use lib.ListN.{length-set}
 use borrow.Author.Needs.{needs}

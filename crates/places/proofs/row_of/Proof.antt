@@ -2,7 +2,7 @@
 use Rattle.places.proofs.UnfitLaws.{time-small, sample-small}
 use Rattle.places.proofs.RowLaws.{part-at, filled-part}
 use Rattle.places.specs.Rows.{rowOf}
-use Rattle.lists.proofs.Parts.{length-part-le}
+use Rattle.ground.proofs.Parts.{length-part-le}
 use mathlib.Core.Path.{_≡_, ap, _∙_}
 use mathlib.Core.Bool.{false}
 use Prim.Native.Nat.{_+_}

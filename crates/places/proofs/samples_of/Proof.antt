@@ -6,8 +6,8 @@ use lib.IntN.{pos}
 use lib.ListN.{length, getD}
 use mir.Syntax.{w32, w64}
 use mir.ValLaws.{toZ-ofZ}
-use Rattle.lists.specs.Tables.{padded}
-use Rattle.lists.proofs.Tables.{padded-set}
+use Rattle.ground.specs.Tables.{padded}
+use Rattle.ground.proofs.Tables.{padded-set}
 use borrow.Author.Needs.{needs}
 use Rattle.places.proofs.samples_of.Statement.{statement}
 use Rattle.places.proofs.samples_of.Tie as tie

@@ -8,8 +8,8 @@ use lib.ListN.{length, getD}
 use lib.Signed.{ltZ}
 use mir.Syntax.{w64}
 use mir.ValLaws.{toZ-ofZ}
-use Rattle.lists.specs.Tables.{padded}
-use Rattle.lists.proofs.Tables.{padded-set}
+use Rattle.ground.specs.Tables.{padded}
+use Rattle.ground.proofs.Tables.{padded-set}
 use borrow.Author.Needs.{needs}
 use Rattle.places.proofs.statuses_of.Statement.{statement}
 use Rattle.places.proofs.statuses_of.Tie as tie

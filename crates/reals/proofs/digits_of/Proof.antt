@@ -4,7 +4,7 @@ use Prim.Native.Nat.{_≤_, _<_, _-_, _^_}
 use native.Mathlib.Omega.{arith}
 use borrow.Author.Needs.{needs}
 use lib.ListN.{length, drop, getD}
-use Rattle.lists.proofs.Walk.{here, done}
+use Rattle.ground.proofs.Walk.{here, done}
 use Rattle.numerals.proofs.Tens.{more, cap}
 use Rattle.numerals.proofs.CountLaws.{digit-bounds}
 use Rattle.reals.specs.Exact.{digitsOf}

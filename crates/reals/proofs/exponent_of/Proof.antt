@@ -1,7 +1,7 @@
 -- `exponent_of` meets its contract.
 use native.Mathlib.Omega.{arith}
 use borrow.Author.Tests.{not-true, not-false}
-use Rattle.lists.proofs.Walk.{first, none, rest}
+use Rattle.ground.proofs.Walk.{first, none, rest}
 use Rattle.reals.specs.Forms.{exponentOf}
 use borrow.Author.Needs.{needs}
 use Rattle.reals.proofs.exponent_of.Statement.{statement}

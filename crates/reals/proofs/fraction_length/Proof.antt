@@ -2,7 +2,7 @@
 use native.Mathlib.Omega.{arith}
 use borrow.Author.Tests.{lt-ltb, le-ltb, eq-eqb, ne-eqb}
 use lib.ListN.{drop, length-drop}
-use Rattle.lists.proofs.Walk.{first, none, rest}
+use Rattle.ground.proofs.Walk.{first, none, rest}
 use Rattle.reals.specs.Forms.{fractionLength}
 use Rattle.reals.proofs.FormLaws.{digits-within}
 use borrow.Author.Needs.{needs}

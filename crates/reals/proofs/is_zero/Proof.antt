@@ -1,12 +1,12 @@
 -- `is_zero` meets its contract. The loop's invariant: the whole is zero where what is left is.
-use Rattle.lists.specs.Tables.{every}
+use Rattle.ground.specs.Tables.{every}
 use mathlib.Core.Path.{_≡_}
 use Prim.Native.Nat.{_≤_, _-_}
 use native.Mathlib.Omega.{arith}
 use borrow.Author.Needs.{needs}
 use borrow.Author.Tests.{not-true, not-false}
 use lib.ListN.{length, drop}
-use Rattle.lists.proofs.Walk.{here, done}
+use Rattle.ground.proofs.Walk.{here, done}
 use Rattle.reals.specs.Forms.{isZero}
 use Rattle.reals.proofs.is_zero.Statement.{statement}
 use Rattle.reals.proofs.is_zero.Tie as tie

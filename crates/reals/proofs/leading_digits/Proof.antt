@@ -5,7 +5,7 @@ use native.Mathlib.Omega.{arith}
 use borrow.Author.Needs.{needs}
 use borrow.Author.Tests.{not-true, not-false}
 use lib.ListN.{length, drop}
-use Rattle.lists.proofs.Walk.{here, done}
+use Rattle.ground.proofs.Walk.{here, done}
 use Rattle.reals.specs.Forms.{leadingDigits}
 use Rattle.reals.proofs.leading_digits.Statement.{statement}
 use Rattle.reals.proofs.leading_digits.Tie as tie

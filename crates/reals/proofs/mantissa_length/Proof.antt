@@ -2,7 +2,7 @@
 use native.Mathlib.Omega.{arith}
 use borrow.Author.Tests.{eq-eqb, ne-eqb}
 use lib.ListN.{drop, length-drop}
-use Rattle.lists.proofs.Walk.{rest}
+use Rattle.ground.proofs.Walk.{rest}
 use Rattle.reals.specs.Forms.{mantissaLength}
 use Rattle.reals.proofs.FormLaws.{digits-within, fraction-within}
 use borrow.Author.Needs.{needs}

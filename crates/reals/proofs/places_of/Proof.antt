@@ -1,5 +1,5 @@
 -- `places_of` meets its contract.
-use Rattle.lists.proofs.Walk.{rest}
+use Rattle.ground.proofs.Walk.{rest}
 use Rattle.reals.specs.Exact.{placesOf}
 use Rattle.reals.proofs.FormLaws.{digits-within}
 use borrow.Author.Needs.{needs}

@@ -3,7 +3,7 @@ use mathlib.Core.Path.{sym, _∙_}
 use borrow.Author.Needs.{needs}
 use borrow.Author.Tests.{not-true, not-false}
 use lib.Dec.{lit≤}
-use Rattle.lists.proofs.Walk.{rest}
+use Rattle.ground.proofs.Walk.{rest}
 use Rattle.numerals.proofs.CountLaws.{length-left, spaces-within}
 use Rattle.reals.specs.Exact.{readLimit}
 use Rattle.reals.proofs.read_limit.Statement.{statement}

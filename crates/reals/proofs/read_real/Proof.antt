@@ -1,7 +1,7 @@
 -- `read_real` meets its contract.
 use borrow.Author.Needs.{needs}
 use borrow.Author.Tests.{not-true, not-false}
-use Rattle.lists.proofs.Walk.{rest}
+use Rattle.ground.proofs.Walk.{rest}
 use Rattle.numerals.proofs.CountLaws.{spaces-within}
 use Rattle.reals.specs.Forms.{readReal}
 use Rattle.reals.proofs.read_real.Statement.{statement}

@@ -1,6 +1,6 @@
 -- `real_form` meets its contract.
 use borrow.Author.Tests.{eq-eqb, ne-eqb}
-use Rattle.lists.proofs.Walk.{rest}
+use Rattle.ground.proofs.Walk.{rest}
 use Rattle.reals.specs.Forms.{realForm}
 use Rattle.reals.proofs.FormLaws.{mantissa-within}
 use borrow.Author.Needs.{needs}

@@ -1,5 +1,5 @@
 -- `signed_exponent` meets its contract.
-use Rattle.lists.proofs.Walk.{rest}
+use Rattle.ground.proofs.Walk.{rest}
 use Rattle.numerals.proofs.CountLaws.{sign-within}
 use Rattle.reals.specs.Forms.{signedExponent}
 use Rattle.reals.proofs.FormLaws.{short-below}

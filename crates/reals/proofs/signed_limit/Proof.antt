@@ -2,7 +2,7 @@
 use native.Mathlib.Omega.{arith}
 use borrow.Author.Needs.{needs}
 use lib.ListN.{length-drop}
-use Rattle.lists.proofs.Walk.{rest}
+use Rattle.ground.proofs.Walk.{rest}
 use Rattle.numerals.proofs.CountLaws.{sign-within}
 use Rattle.reals.specs.Exact.{signedLimit}
 use Rattle.reals.proofs.signed_limit.Statement.{statement}

@@ -1,6 +1,6 @@
 -- `signed_real` meets its contract.
 use borrow.Author.Needs.{needs}
-use Rattle.lists.proofs.Walk.{rest}
+use Rattle.ground.proofs.Walk.{rest}
 use Rattle.numerals.proofs.CountLaws.{sign-within}
 use Rattle.reals.specs.Forms.{signedReal}
 use Rattle.reals.proofs.signed_real.Statement.{statement}

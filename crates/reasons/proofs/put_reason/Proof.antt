@@ -2,7 +2,7 @@
 use mathlib.Core.Path.{_≡_}
 use borrow.Author.Needs.{needs}
 use borrow.Author.Tests.{ne-eqb}
-use Rattle.lists.specs.Said.{refuses}
+use Rattle.ground.specs.Said.{refuses}
 use Rattle.model.specs.Refusals.{refused}
 use Rattle.reasons.specs.Reasons.{reasonOf}
 use Rattle.reasons.proofs.Laws.{told, untold}

@@ -1,6 +1,6 @@
 -- `recode::put_two` meets its contract.
 use mathlib.Core.Path.{sym, _∙_}
-use Rattle.lists.proofs.Parts.{put-pair}
+use Rattle.ground.proofs.Parts.{put-pair}
 use Rattle.recode.proofs.SampleLaws.{two-bytes}
 use borrow.Author.Needs.{needs}
 use Rattle.recode.proofs.put_two.Statement.{statement}

@@ -1,0 +1,108 @@
+-- Laws of a plain row and its line: what is written is found, is fine and reads back.
+--     Fits                                      what a row must keep to be written: its timestamp and its samples
+--     time-back, sample-back, status-back       what is written in a field reads back
+--     line-fine, line-back                      the line of a row is fine, and says the row with its places past A and D zero
+--     row-scanned, row-checked                  a row that a text begins with is found, and is fine
+--     row-line, row-rest                        its line, and what follows it
+-- Assumes nothing.
+use mathlib.Core.Path.{_≡_, refl}
+use mathlib.Core.Bool.{Bool, true, false}
+use mathlib.Core.List.{List, [], _∷_, _++_, append-assoc}
+use Prim.Native.Nat.{ℕ, _+_, _^_, _<_}
+use native.Mathlib.Omega.{arith}
+use borrow.Author.Tests.{le-leb}
+use lib.IntN.{ℤ, pos}
+use lib.ListN.{length, getD, take, drop}
+use lib.Seq.{take-append-seam, drop-append-add}
+use Rattle.ground.specs.Said.{says}
+use Rattle.ground.proofs.Tables.{tab-ext}
+use Rattle.text.specs.declared.Scanned.the-variants.{Line}
+use Rattle.text.specs.Fields.{afterFields}
+use Rattle.text.proofs.LineLaws.{line-scanned}
+use Rattle.numerals.specs.declared.Count.the-variants as count
+use Rattle.numerals.specs.declared.Whole.the-variants as whole
+use Rattle.numerals.specs.Decimals.{decimal, plain}
+use Rattle.numerals.proofs.PlainLaws.{length-decimal, count-decimal}
+use Rattle.numerals.proofs.WholeLaws.{whole-plain}
+use Rattle.model.specs.declared.Kind.the-variants.{Ascii}
+use Rattle.model.specs.declared.Layout.{Layout}
+use Rattle.model.specs.declared.Row.{Row}
+use Rattle.model.specs.Kinds.{fitsKind}
+use Rattle.model.specs.Layouts.{Sized}
+use Rattle.model.specs.Rows.{trimmed}
+use Rattle.ascii_row.specs.Fields.{readTime, readSample, isStatus, timeIn, sampleIn, statusIn}
+use Rattle.ascii_row.specs.Rows.{checkLine, sampleAt, statusAt, rowOf}
+use Rattle.ascii_row.proofs.LineLaws.{line-is, sample-at, status-at}
+use Rattle.ascii_plain.specs.Rows.{statusChar, lineOf, textOf, textLength}
+use Rattle.ascii_plain.proofs.LengthLaws.{decimal-short, sample-short, text-line, line-most}
+use Rattle.ascii_plain.proofs.LineLaws.{line-bytes-plain, fields-line, number-field, time-field, sample-field, status-field}
+use Rattle.ascii_file.specs.Files.{scanRow, checkRow, lineTaken, firstLine}
+
+-- a row that can be written: its timestamp and its samples have 32 bits
+pub record Fits (l : Layout) (r : Row) : Type 0 where
+  pub time : r .time < 2 ^ 32
+  pub samples : (i : ℕ) → i < l .analogs → fitsKind Ascii (getD (r .samples) i (pos 0)) ≡ true
+
+pub time-back : (v : ℕ) → v < 2 ^ 32 → readTime (decimal v) ≡ count.Is v
+unfolding readTime
+time-back v h = rw (count-decimal 1 13 v (length-decimal v) (omega (arith, decimal-short v h)), le-leb v 4294967295 (omega arith))
+
+pub sample-back : (z : ℤ) → fitsKind Ascii z ≡ true → readSample (plain z) ≡ whole.Is z
+unfolding readSample
+sample-back z h = rw (whole-plain z (omega (arith, sample-short z h)), h)
+
+pub status-back : (b : Bool) → (isStatus (statusChar b ∷ []) ≡ true) × (statusIn (statusChar b ∷ []) ≡ b)
+unfolding isStatus statusIn
+status-back true = (refl, refl)
+status-back false = (refl, refl)
+
+module _ (l : Layout) (n : ℕ) (r : Row) (f : Fits l r) where
+  pub line-fine : n < 2 ^ 32 → checkLine l n (lineOf l n r) ≡ says tt
+  line-fine h =
+      line-is l n (lineOf l n r) (record {
+        count = fields-line l n r;
+        number = rw (number-field l n r) (count-decimal 1 10 n (length-decimal n) (decimal-short n h));
+        time = rw (time-field l n r, time-back (r .time) (f .time));
+        samples = λ i k. rw (sample-field l n r i k, sample-back (getD (r .samples) i (pos 0)) (f .samples i k));
+        statuses = λ i k. rw (status-field l n r i k) (status-back (getD (r .statuses) i false) .0);
+      })
+
+  sample-read : (i : ℕ) → i < l .analogs → sampleAt (afterFields 2 (lineOf l n r)) i ≡ getD (r .samples) i (pos 0)
+  unfolding sampleIn
+  sample-read i h = rw (sample-at, sample-field l n r i h, sample-back (getD (r .samples) i (pos 0)) (f .samples i h))
+
+  status-read : (i : ℕ) → i < l .statuses → statusAt (afterFields (2 + l .analogs) (lineOf l n r)) i ≡ getD (r .statuses) i false
+  status-read i h = rw (status-at l, status-field l n r i h) (status-back (getD (r .statuses) i false) .1)
+
+  pub line-back : rowOf l (lineOf l n r) ≡ trimmed l r
+  unfolding rowOf trimmed timeIn
+  line-back =
+      rw (
+        time-field l n r,
+        time-back (r .time) (f .time),
+        tab-ext (sampleAt (afterFields 2 (lineOf l n r))) (λ i. getD (r .samples) i (pos 0)) (l .analogs) sample-read,
+        tab-ext (statusAt (afterFields (2 + l .analogs) (lineOf l n r))) (λ i. getD (r .statuses) i false) (l .statuses) status-read,
+      )
+
+  -- the row with what follows it
+  module _ (s : Sized l) (h : n < 2 ^ 32) (rest : List ℕ) where
+    as-line : textOf l n r ++ rest ≡ lineOf l n r ++ 13 ∷ 10 ∷ rest
+    unfolding textOf
+    as-line = append-assoc (lineOf l n r) (13 ∷ 10 ∷ []) rest
+
+    pub row-scanned : scanRow (textOf l n r ++ rest) ≡ Line (length (lineOf l n r)) (length (lineOf l n r) + 2)
+    row-scanned = rw as-line (line-scanned 1880 (lineOf l n r) rest (line-bytes-plain l n r) (line-most l n r s h (f .time) (f .samples)))
+
+    take-line : take (length (lineOf l n r)) (textOf l n r ++ rest) ≡ lineOf l n r
+    take-line = rw (as-line, take-append-seam)
+
+    pub row-checked : checkRow l n (textOf l n r ++ rest) ≡ says (textLength l n r)
+    unfolding checkRow
+    row-checked = rw (row-scanned, take-line, line-fine h, text-line l n r)
+
+    pub row-line : firstLine (textOf l n r ++ rest) ≡ lineOf l n r
+    unfolding firstLine
+    row-line = rw (row-scanned, take-line)
+
+    pub row-rest : drop (lineTaken (scanRow (textOf l n r ++ rest))) (textOf l n r ++ rest) ≡ rest
+    row-rest = rw (row-scanned, as-line, drop-append-add)

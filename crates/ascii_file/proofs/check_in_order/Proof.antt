@@ -1,0 +1,86 @@
+-- `ascii_file::check_in_order` meets its contract: the scan, then the check of the line that was found.
+use Prim.Native.Nat.{_+_}
+use Rattle.ascii_file.specs.Files.{checkRow}
+use Rattle.ascii_row.specs.Rows.{checkLine}
+use Rattle.model.proofs.AnswerLaws.{yes-told, no-told}
+use Rattle.text.proofs.LineLaws.{Lies, line-found}
+use lib.Seq.{length-take-le}
+use lib.ListN.{take}
+use native.Mathlib.Omega.{arith}
+use mathlib.Core.Path.{_≡_, sym, _∙_}
+use borrow.Author.Needs.{needs}
+use Rattle.ascii_file.proofs.check_in_order.Statement.{statement}
+use Rattle.ascii_file.proofs.check_in_order.Tie as tie
+
+scan-line-requires : tie.Need-scan-line-requires
+scan-line-requires c κs = search needs
+
+enum-known-len : tie.Need-enum-known-len
+enum-known-len c = search needs
+    -- what the scan says of the line that it found
+
+line : (c : tie.After-known-told) → (c .before .len .given .0 .1 .0 ≡ c .before .len .given .0 .0 + 2) × Lies 1880 (c .before .before .before .before .before .args .rest .now) (c .before .len .given .0 .0) (c .before .len .given .0 .1 .0)
+line c = line-found 1880 (c .before .len .given .0 .0) (c .before .len .given .0 .1 .0) (c .before .before .before .before .before .args .rest .now) (sym (c .before .before .before .scan-line .ensures) ∙ c .before .len .given .1)
+
+slice-aggregate-check-line : tie.Need-slice-aggregate-check-line
+slice-aggregate-check-line c = sym (length-take-le _ _ (omega (arith, line (c .before) .0, line (c .before) .1 .within)))
+
+check-line-requires : tie.Need-check-line-requires
+check-line-requires c κs = search needs
+
+enum-told : tie.Need-enum-told
+enum-told c = search needs
+
+enum-known-refusal : tie.Need-enum-known-refusal
+enum-known-refusal c = search needs
+
+enum-told-2 : tie.Need-enum-told-2
+enum-told-2 c = search needs
+
+refused-requires : tie.Need-refused-requires
+refused-requires c κs = search needs
+
+enum-told-3 : tie.Need-enum-told-3
+enum-told-3 c = search needs
+
+refused-requires-2 : tie.Need-refused-requires-2
+refused-requires-2 c κs = search needs
+
+returns : tie.Need-returns
+unfolding checkRow
+returns c =
+    let told = yes-told (checkLine (c .before .before .before .before .before .before .before .before .before .args .layout) (c .before .before .before .before .before .before .before .before .before .args .n) (take (c .before .before .before .before .before .len .given .0 .0) (c .before .before .before .before .before .before .before .before .before .args .rest .now))) (sym (c .before .before .check-line .ensures) ∙ c .enum-told .given .1) in
+    rw (← c .before .before .before .before .before .before .before .scan-line .ensures, c .before .before .before .before .before .len .given .1, told, line (c .before .before .before .before) .0)
+
+returns-2 : tie.Need-returns-2
+unfolding checkRow
+returns-2 c =
+    let told = no-told (checkLine (c .before .before .before .before .before .before .before .before .before .before .args .layout) (c .before .before .before .before .before .before .before .before .before .before .args .n) (take (c .before .before .before .before .before .before .len .given .0 .0) (c .before .before .before .before .before .before .before .before .before .before .args .rest .now))) (c .before .refusal .given .0 .0) (sym (c .before .before .before .check-line .ensures) ∙ c .before .refusal .given .1) in
+    rw (← c .before .before .before .before .before .before .before .before .scan-line .ensures, c .before .before .before .before .before .before .len .given .1, told)
+
+returns-3 : tie.Need-returns-3
+unfolding checkRow
+returns-3 c = rw (c .refused .ensures, ← c .before .before .before .scan-line .ensures, c .before .enum-told2 .given .1)
+
+returns-4 : tie.Need-returns-4
+unfolding checkRow
+returns-4 c = rw (c .refused2 .ensures, ← c .before .before .before .scan-line .ensures, c .before .enum-told3 .given .1)
+
+pub check-in-order-spec : {M : Type 1} → statement M
+check-in-order-spec =
+    tie.close
+    (tie.spec
+    scan-line-requires
+    enum-known-len
+    slice-aggregate-check-line
+    check-line-requires
+    enum-told
+    enum-known-refusal
+    enum-told-2
+    refused-requires
+    enum-told-3
+    refused-requires-2
+    returns
+    returns-2
+    returns-3
+    returns-4)

@@ -1,0 +1,24 @@
+-- A plain row by example, computed.
+--     example      the row that clause 8 of the standard shows, its spaces left out
+-- Assumes nothing.
+use mathlib.Core.Path.{_≡_, refl}
+use mathlib.Core.Bool.{true, false}
+use mathlib.Core.List.{[], _∷_}
+use lib.IntN.{pos, negsuc}
+use Rattle.ground.specs.Quoted.{quoted}
+use Rattle.numerals.specs.Decimals.{decimalIn, decimal, plain}
+use Rattle.model.specs.declared.Kind.the-variants.{Ascii}
+use Rattle.ascii_plain.specs.Rows.{lineOf, textOf}
+
+pub example :
+    textOf
+    (record { analogs = 6; statuses = 6; rows = 5; kind = Ascii })
+    5
+    (record {
+      time = 667;
+      samples = negsuc 759 ∷ pos 1274 ∷ pos 72 ∷ pos 61 ∷ negsuc 139 ∷ negsuc 501 ∷ [];
+      statuses = false ∷ false ∷ false ∷ false ∷ true ∷ true ∷ [];
+    })
+    ≡ quoted "5,667,-760,1274,72,61,-140,-502,0,0,0,0,1,1\r\n"
+unfolding decimalIn decimal plain lineOf textOf
+example = refl

@@ -1,0 +1,92 @@
+-- Laws of the lengths in a plain row.
+--     decimal-short, plain-short, sample-short     a number of 32 bits has at most 10 characters, and with its sign at most 11
+--     samples-long                                 the samples have their length
+--     samples-next, samples-within                 one sample more, and sample i within all
+--     samples-most                                 a samples take at most 12 * a characters
+--     length-line, length-text                     how long the line, and the row, is
+--     text-line                                    CR LF takes 2 bytes more than the line
+--     line-most                                    the line of a sized layout has at most 1,880 characters
+-- Assumes nothing.
+use mathlib.Core.Path.{_≡_, refl, sym, _∙_}
+use mathlib.Core.Bool.{Bool, true}
+use mathlib.Core.Logic.{⊎-elim}
+use mathlib.Core.List.{List, _++_}
+use Prim.Native.Nat.{ℕ, zero, suc, _+_, _*_, _^_, _<_, _≤_}
+use native.Mathlib.Numerals.{add-one}
+use native.Mathlib.Omega.{arith}
+use lib.IntN.{ℤ, pos, negsuc}
+use lib.ListN.{length, getD, length-append}
+use lib.Signed.{mag}
+use Rattle.ground.proofs.Cases.{lt-or-ge}
+use Rattle.ground.proofs.Tables.{length-cat}
+use Rattle.numerals.specs.Decimals.{decimal, plain}
+use Rattle.numerals.proofs.PlainLaws.{length-decimal-le}
+use Rattle.numerals.proofs.WholeLaws.{plain-pos, plain-neg}
+use Rattle.model.specs.declared.Kind.the-variants.{Ascii}
+use Rattle.model.specs.declared.Layout.{Layout}
+use Rattle.model.specs.declared.Row.{Row}
+use Rattle.model.specs.Kinds.{fitsKind}
+use Rattle.model.specs.Layouts.{Sized}
+use Rattle.model.proofs.KindLaws.{fits-size}
+use Rattle.ascii_plain.specs.Rows.{headText, samplesText, statusText, statusesText, lineOf, textOf, headLength, samplesLength, lengthBy, lengthBy, textLength}
+
+pub decimal-short : (v : ℕ) → v < 2 ^ 32 → length (decimal v) ≤ 10
+decimal-short v h = length-decimal-le 9 v (omega arith)
+
+pub plain-short : (z : ℤ) → mag z < 2 ^ 31 → length (plain z) ≤ 11
+plain-short (pos v) h = rw (plain-pos v) (omega (arith, decimal-short v (omega arith)))
+plain-short (negsuc v) h = rw (plain-neg v) (omega (arith, decimal-short (suc v) (omega arith)))
+
+pub sample-short : (z : ℤ) → fitsKind Ascii z ≡ true → length (plain z) ≤ 11
+sample-short z h = plain-short z (fits-size Ascii z h)
+
+module _ (zs : List ℤ) where
+  pub samples-long : (a : ℕ) → length (samplesText a zs) ≡ samplesLength zs a
+  samples-long zero = refl
+  samples-long (suc a) = length-append (samplesText a zs) _ ∙ omega (arith, samples-long a)
+
+  pub samples-next : (i : ℕ) → samplesLength zs (i + 1) ≡ samplesLength zs i + (1 + length (plain (getD zs i (pos 0))))
+  samples-next i = rw add-one
+
+  pub samples-within : (i a : ℕ) → i < a → samplesLength zs i + (1 + length (plain (getD zs i (pos 0)))) ≤ samplesLength zs a
+  samples-within i zero h = absurd (omega arith)
+  samples-within i (suc a) h =
+      ⊎-elim
+      (λ l. omega (arith, samples-within i a l))
+      (λ (l : a ≤ i). let e : i ≡ a = omega arith in rw e (omega arith))
+      (lt-or-ge i a)
+
+  pub samples-most : (a : ℕ) → ((i : ℕ) → i < a → fitsKind Ascii (getD zs i (pos 0)) ≡ true) → samplesLength zs a ≤ 12 * a
+  samples-most zero h = omega arith
+  samples-most (suc a) h =
+      omega (arith, samples-most a (λ i l. h i (omega arith)), sample-short (getD zs a (pos 0)) (h a (omega arith)))
+
+head-long : (n t : ℕ) → length (headText n t) ≡ headLength n t
+head-long n t = length-append (decimal n) _ ∙ omega arith
+
+statuses-long : (d : ℕ) (s : List Bool) → length (statusesText d s) ≡ d * 2
+statuses-long d s = length-cat (statusText s) 2 (λ i. refl) d
+
+module _ (l : Layout) (n : ℕ) (r : Row) where
+  pub length-line : length (lineOf l n r) ≡ headLength n (r .time) + (samplesLength (r .samples) (l .analogs) + 2 * l .statuses)
+  unfolding lineOf
+  length-line =
+      let h = headText n (r .time) in
+      let z = samplesText (l .analogs) (r .samples) in
+      let s = statusesText (l .statuses) (r .statuses) in
+      length-append h (z ++ s)
+      ∙ omega (arith, length-append z s, head-long n (r .time), samples-long (r .samples) (l .analogs), statuses-long (l .statuses) (r .statuses))
+
+  pub text-line : textLength l n r ≡ length (lineOf l n r) + 2
+  unfolding lengthBy
+  text-line = omega (arith, length-line)
+
+  pub length-text : textLength l n r ≡ length (textOf l n r)
+  unfolding textOf
+  length-text = text-line ∙ sym (length-append (lineOf l n r) _)
+
+  pub line-most : Sized l → n < 2 ^ 32 → r .time < 2 ^ 32
+      → ((i : ℕ) → i < l .analogs → fitsKind Ascii (getD (r .samples) i (pos 0)) ≡ true) → length (lineOf l n r) ≤ 1880
+  line-most s hn ht fit =
+      let z = samples-most (r .samples) (l .analogs) fit in
+      omega (arith, length-line, decimal-short n hn, decimal-short (r .time) ht, s .analogs, s .statuses)

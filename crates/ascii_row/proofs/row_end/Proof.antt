@@ -1,0 +1,64 @@
+-- `ascii_row::row_end` meets its contract: each part was read from where the one before it ends.
+use native.Mathlib.Omega.{arith}
+use Rattle.ascii_row.proofs.WalkLaws.{next-time, row-there}
+use borrow.Author.Needs.{needs}
+use Rattle.ascii_row.proofs.row_end.Statement.{statement}
+use Rattle.ascii_row.proofs.row_end.Tie as tie
+
+cast-a : tie.Need-cast-a
+cast-a c = search needs
+
+cast-d : tie.Need-cast-d
+cast-d c = search needs
+
+number-end-requires : tie.Need-number-end-requires
+number-end-requires c κs = search needs
+
+returns : tie.Need-returns
+returns c = λ h. absurd (omega arith)
+
+time-end-requires : tie.Need-time-end-requires
+time-end-requires c κs = c .before .number-end .ensures (c .if1 .left) .within
+
+returns-2 : tie.Need-returns-2
+returns-2 c = λ h. absurd (omega arith)
+
+samples-end-requires : tie.Need-samples-end-requires
+samples-end-requires c κs = (c .before .time-end .ensures (c .if2 .left) .within, omega arith)
+
+returns-3 : tie.Need-returns-3
+returns-3 c = λ h. absurd (omega arith)
+
+statuses-end-requires : tie.Need-statuses-end-requires
+statuses-end-requires c κs = (c .before .samples-end .ensures (c .if3 .left) .0, omega arith)
+
+returns-4 : tie.Need-returns-4
+returns-4 c = λ h. absurd (omega arith)
+
+line-end-requires : tie.Need-line-end-requires
+line-end-requires c κs = c .before .statuses-end .ensures (c .if4 .left) .0
+
+returns-5 : tie.Need-returns-5
+returns-5 c = λ h.
+    let l = c .before .before .before .before .before .before .before .before .before .before .before .before .args .layout in
+    let s = c .before .before .before .before .before .before .before .before .before .before .before .before .args .s .now in
+    let e = c .line-end .ensures h in
+    rw (e .takes)
+    (row-there l _ s _ _ _ _ (c .before .before .before .before .before .before .before .before .number-end .ensures (c .before .before .before .before .before .before .before .if1 .left)) (next-time (l .analogs) s _ _ (c .before .before .before .before .before .before .time-end .ensures (c .before .before .before .before .before .if2 .left))) (c .before .before .before .before .samples-end .ensures (c .before .before .before .if3 .left) .1) (c .before .before .statuses-end .ensures (c .before .if4 .left) .1 (l .analogs)) (e .within) (e .short) (e .cr) (e .lf))
+
+pub row-end-spec : {M : Type 1} → statement M
+row-end-spec =
+    tie.close
+    (tie.spec
+    cast-a
+    cast-d
+    number-end-requires
+    returns
+    time-end-requires
+    returns-2
+    samples-end-requires
+    returns-3
+    statuses-end-requires
+    returns-4
+    line-end-requires
+    returns-5)

@@ -1,0 +1,25 @@
+-- `ascii_row::samples_of` meets its contract: what the fields say fills the first a places, and the rest is as it was, zero.
+use Rattle.ascii_row.specs.Rows.{sampleAt}
+use Rattle.ground.proofs.Filled.{front-length, padded-fill}
+use lib.IntN.{pos}
+use mathlib.Core.Path.{sym}
+use borrow.Author.Needs.{needs}
+use Rattle.ascii_row.proofs.samples_of.Statement.{statement}
+use Rattle.ascii_row.proofs.samples_of.Tie as tie
+
+array-borrow-prefix-out : tie.Need-array-borrow-prefix-out
+array-borrow-prefix-out c = search needs
+
+slice-aggregate-read-samples : tie.Need-slice-aggregate-read-samples
+slice-aggregate-read-samples c = sym (front-length (c .before .before .args .a) 96 (pos 0) (c .before .before .pre))
+
+read-samples-requires : tie.Need-read-samples-requires
+read-samples-requires c κs = search needs
+
+returns : tie.Need-returns
+returns c = padded-fill (c .before .before .before .before .args .a) 96 (pos 0) (c .before .before .before .before .pre) (sampleAt (c .before .before .before .before .args .fields .now)) (c .before .read-samples .last .1 .0) (c .before .read-samples .ensures)
+
+pub samples-of-spec : {M : Type 1} → statement M
+samples-of-spec =
+    tie.close
+    (tie.spec array-borrow-prefix-out slice-aggregate-read-samples read-samples-requires returns)

@@ -1,0 +1,25 @@
+-- `ascii_row::statuses_of` meets its contract: what the fields say fills the first d places, and the rest is as it was, zero.
+use Rattle.ascii_row.specs.Rows.{statusAt}
+use Rattle.ground.proofs.Filled.{front-length, padded-fill}
+use mathlib.Core.Bool.{false}
+use mathlib.Core.Path.{sym}
+use borrow.Author.Needs.{needs}
+use Rattle.ascii_row.proofs.statuses_of.Statement.{statement}
+use Rattle.ascii_row.proofs.statuses_of.Tie as tie
+
+array-borrow-prefix-out : tie.Need-array-borrow-prefix-out
+array-borrow-prefix-out c = search needs
+
+slice-aggregate-read-statuses : tie.Need-slice-aggregate-read-statuses
+slice-aggregate-read-statuses c = sym (front-length (c .before .before .args .d) 256 false (c .before .before .pre))
+
+read-statuses-requires : tie.Need-read-statuses-requires
+read-statuses-requires c κs = search needs
+
+returns : tie.Need-returns
+returns c = padded-fill (c .before .before .before .before .args .d) 256 false (c .before .before .before .before .pre) (statusAt (c .before .before .before .before .args .fields .now)) (c .before .read-statuses .last .1 .0) (c .before .read-statuses .ensures)
+
+pub statuses-of-spec : {M : Type 1} → statement M
+statuses-of-spec =
+    tie.close
+    (tie.spec array-borrow-prefix-out slice-aggregate-read-statuses read-statuses-requires returns)

@@ -1,0 +1,72 @@
+-- Fields of a text row: what the characters of each say.
+use mathlib.Core.Bool.{Bool, true, false, _||_}
+use mathlib.Core.List.{List, [], _∷_}
+use Prim.Native.Nat.{ℕ}
+use lib.Dec.{eqb, leb}
+use lib.IntN.{ℤ, pos}
+use lib.ListN.{getD}
+use Rattle.ground.specs.Choice.{if_then_else_}
+use Rattle.numerals.specs.declared.Count.{Count}
+use Rattle.numerals.specs.declared.Count.the-variants as count
+use Rattle.numerals.specs.declared.Whole.{Whole}
+use Rattle.numerals.specs.declared.Whole.the-variants as whole
+use Rattle.numerals.specs.Counts.{readCount}
+use Rattle.numerals.specs.Wholes.{readWhole}
+use Rattle.model.specs.declared.Kind.the-variants.{Ascii}
+use Rattle.model.specs.Kinds.{fitsKind}
+
+-- a count of at most so much; a larger one is bad
+abbrev pub atMost : ℕ → Count → Count
+atMost most (count.Is v) = if leb v most then count.Is v else count.Form
+atMost most count.Form = count.Form
+
+-- a timestamp: 1 to 13 digits, at most 4,294,967,295
+unfoldable pub readTime : List ℕ → Count
+readTime f = atMost 4294967295 (readCount 1 13 f)
+
+-- a whole number within the range of a text's samples; another is bad
+abbrev pub inRange : Whole → Whole
+inRange (whole.Is z) = if fitsKind Ascii z then whole.Is z else whole.Form
+inRange whole.Form = whole.Form
+
+-- a sample: 1 to 13 characters, an optional sign and digits, within the range
+unfoldable pub readSample : List ℕ → Whole
+readSample f = inRange (readWhole f)
+
+-- a status: exactly 0 or 1
+unfoldable pub isStatus : List ℕ → Bool
+isStatus [] = false
+isStatus (b ∷ []) = eqb b 48 || eqb b 49
+isStatus (b ∷ c ∷ f) = false
+
+-- whether a count was read
+abbrev pub isCount : Count → Bool
+isCount (count.Is v) = true
+isCount count.Form = false
+
+-- the count that was read
+abbrev pub countIn : Count → ℕ
+countIn (count.Is v) = v
+countIn count.Form = 0
+
+-- whether a whole number was read
+abbrev pub isWhole : Whole → Bool
+isWhole (whole.Is z) = true
+isWhole whole.Form = false
+
+-- the whole number that was read
+abbrev pub wholeIn : Whole → ℤ
+wholeIn (whole.Is z) = z
+wholeIn whole.Form = pos 0
+
+-- the timestamp of a field
+unfoldable pub timeIn : List ℕ → ℕ
+timeIn f = countIn (readTime f)
+
+-- the sample of a field
+unfoldable pub sampleIn : List ℕ → ℤ
+sampleIn f = wholeIn (readSample f)
+
+-- the status of a field
+unfoldable pub statusIn : List ℕ → Bool
+statusIn f = eqb (getD f 0 0) 49

@@ -1,0 +1,50 @@
+-- Files of the two binary kinds: exactly rows times row size, then row by row.
+use mathlib.Core.List.{List}
+use Prim.Native.Nat.{ℕ, zero, suc, _+_, _*_}
+use lib.Dec.{eqb}
+use lib.ListN.{length}
+use Rattle.ground.specs.Choice.{if_then_else_}
+use Rattle.ground.specs.Said.{Said, says, refuses, _>>_, must}
+use Rattle.ground.specs.Tables.{part, cat}
+use Rattle.model.specs.declared.Layout.{Layout}
+use Rattle.model.specs.declared.Row.{Row}
+use Rattle.model.specs.declared.Refusal.{Refusal}
+use Rattle.model.specs.Refusals.{refused}
+use Rattle.binary_row.specs.Rows.{rowSize, rowCheck, rowOf, bytesOf}
+
+-- the bytes of row i, counted from 0
+abbrev pub rowBytes : Layout → ℕ → List ℕ → List ℕ
+rowBytes l i s = part (i * rowSize l) (i * rowSize l + rowSize l) s
+
+-- the refusal of row n by what its check found: its number is field 1, its padding no field's
+unfoldable pub rowRefusal : ℕ → ℕ → Refusal
+rowRefusal found n = if eqb found 12 then refused 12 n 1 else refused 13 n 0
+
+-- row n is fine, by what its check found
+abbrev pub fineRow : ℕ → ℕ → Said Refusal (Unit {0})
+fineRow found n = must (eqb found 0) (rowRefusal found n)
+
+-- m rows are fine, from row i on, counted from 0
+unfoldable pub checkRows : Layout → List ℕ → ℕ → ℕ → Said Refusal (Unit {0})
+checkRows l s i zero = says tt
+checkRows l s i (suc m) = do
+  fineRow (rowCheck l (i + 1) (rowBytes l i s)) (i + 1)
+  checkRows l s (i + 1) m
+
+-- a file of the binary kinds has exactly rows times row size bytes
+abbrev pub checkLength : Layout → List ℕ → Said Refusal (Unit {0})
+checkLength l s = must (eqb (length s) (l .rows * rowSize l)) (refused 11 0 0)
+
+-- a file of the binary kinds: its length, then row by row
+unfoldable pub checkBinary : Layout → List ℕ → Said Refusal (Unit {0})
+checkBinary l s = do
+  checkLength l s
+  checkRows l s 0 (l .rows)
+
+-- row i of a file, counted from 0
+unfoldable pub binaryRow : Layout → ℕ → List ℕ → Row
+binaryRow l i s = rowOf l (rowBytes l i s)
+
+-- the bytes of a file whose rows are r 0, r 1, ..
+abbrev pub binaryFile : Layout → (ℕ → Row) → List ℕ
+binaryFile l r = cat (λ i. bytesOf l (i + 1) (r i)) (l .rows)

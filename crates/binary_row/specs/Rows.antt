@@ -1,0 +1,113 @@
+-- Rows of the two binary kinds: what the bytes of a row say, and the bytes that a row has.
+use mathlib.Core.Bool.{Bool, true, false, not}
+use mathlib.Core.List.{List, [], _∷_, _++_}
+use Prim.Native.Nat.{ℕ, _+_, _*_, _/_, _%_, _^_, min}
+use lib.Dec.{eqb}
+use lib.IntN.{ℤ, pos}
+use lib.ListN.{getD}
+use Rattle.ground.specs.Choice.{if_then_else_}
+use Rattle.ground.specs.Tables.{part, padded, cat}
+use Rattle.words.specs.Words.{wordOf, wordBytes}
+use Rattle.words.specs.Signed.{signedOf, unsignedOf}
+use Rattle.model.specs.declared.Layout.{Layout}
+use Rattle.model.specs.declared.Row.{Row}
+use Rattle.model.specs.Kinds.{widthOf, halfOf}
+
+-- how many words hold d statuses: d / 16 rounded up
+abbrev pub wordsOf : ℕ → ℕ
+wordsOf d = (d + 15) / 16
+
+-- where the samples of a row end and its status words begin
+abbrev pub samplesEnd : Layout → ℕ
+samplesEnd l = 8 + l .analogs * widthOf (l .kind)
+
+-- the bytes of a row: number and timestamp, samples, status words
+unfoldable pub rowSize : Layout → ℕ
+rowSize l = samplesEnd l + 2 * wordsOf (l .statuses)
+
+-- the number of a row
+abbrev pub numberOfRow : List ℕ → ℕ
+numberOfRow b = wordOf (part 0 4 b)
+
+-- the timestamp of a row
+abbrev pub timeOfRow : List ℕ → ℕ
+timeOfRow b = wordOf (part 4 8 b)
+
+-- the samples of a row
+abbrev pub samplesPart : Layout → List ℕ → List ℕ
+samplesPart l b = part 8 (samplesEnd l) b
+
+-- the status words of a row
+abbrev pub wordsPart : Layout → List ℕ → List ℕ
+wordsPart l b = part (samplesEnd l) (rowSize l) b
+
+-- sample i of samples of w bytes, in two's complement with half h
+abbrev pub sampleAt : ℕ → ℕ → List ℕ → ℕ → ℤ
+sampleAt w h b i = signedOf h (wordOf (part (i * w) (i * w + w) b))
+
+-- status word j of status words
+abbrev pub wordAt : List ℕ → ℕ → ℕ
+wordAt b j = wordOf (part (j * 2) (j * 2 + 2) b)
+
+-- bit i of a word
+abbrev pub bitOf : ℕ → ℕ → Bool
+bitOf n i = eqb (n / 2 ^ i % 2) 1
+
+-- status i of status words: sixteen to a word, from the lowest bit up
+abbrev pub statusAt : List ℕ → ℕ → Bool
+statusAt b i = bitOf (wordAt b (i / 16)) (i % 16)
+
+-- the bits past d statuses are zero; there are none where the statuses fill their words
+abbrev pub paddingFree : ℕ → List ℕ → Bool
+paddingFree d b = if eqb (d % 16) 0 then true else eqb (wordAt b (d / 16) / 2 ^ (d % 16)) 0
+
+-- what is wrong with the bytes of row n: 12 its number, 13 its padding, 0 nothing
+unfoldable pub rowCheck : Layout → ℕ → List ℕ → ℕ
+rowCheck l n b =
+    if not (eqb (numberOfRow b) n) then 12
+    else if not (paddingFree (l .statuses) (wordsPart l b)) then 13
+    else 0
+
+-- the row that bytes are; its number is left to the check
+unfoldable pub rowOf : Layout → List ℕ → Row
+rowOf l b =
+    record {
+      time = timeOfRow b;
+      samples = padded (sampleAt (widthOf (l .kind)) (halfOf (l .kind)) (samplesPart l b)) (l .analogs) 96 (pos 0);
+      statuses = padded (statusAt (wordsPart l b)) (l .statuses) 256 false;
+    }
+
+-- the bytes of sample i, of w bytes with half h
+abbrev pub sampleBytes : ℕ → ℕ → List ℤ → ℕ → List ℕ
+sampleBytes w h zs i = wordBytes w (unsignedOf h (getD zs i (pos 0)))
+
+-- the word of statuses: the first in the lowest bit
+unfoldable pub packed : List Bool → ℕ
+packed [] = 0
+packed (b ∷ s) = (if b then 1 else 0) + 2 * packed s
+
+-- where the statuses of word j, of d in all, end
+abbrev pub wordEnd : ℕ → ℕ → ℕ
+wordEnd d j = min (j * 16 + 16) d
+
+-- the bytes of status word j of the first d statuses
+abbrev pub wordBytesAt : ℕ → List Bool → ℕ → List ℕ
+wordBytesAt d s j = wordBytes 2 (packed (part (j * 16) (wordEnd d j) s))
+
+-- the bytes of the first a samples, of w bytes with half h
+abbrev pub samplesBytes : ℕ → ℕ → ℕ → List ℤ → List ℕ
+samplesBytes w h a zs = cat (sampleBytes w h zs) a
+
+-- the bytes of the words of the first d statuses
+abbrev pub wordsBytes : ℕ → List Bool → List ℕ
+wordsBytes d s = cat (wordBytesAt d s) (wordsOf d)
+
+-- the bytes of a row's number and timestamp
+abbrev pub headBytes : ℕ → ℕ → List ℕ
+headBytes n t = wordBytes 4 n ++ wordBytes 4 t
+
+-- the bytes of a row with number n; its places past A and D are not read
+unfoldable pub bytesOf : Layout → ℕ → Row → List ℕ
+bytesOf l n r =
+    headBytes n (r .time)
+    ++ (samplesBytes (widthOf (l .kind)) (halfOf (l .kind)) (l .analogs) (r .samples) ++ wordsBytes (l .statuses) (r .statuses))

@@ -1,0 +1,276 @@
+// Rows of the two binary kinds: read from bytes and written to bytes, by the sample width alone.
+// Each function gives exactly what the definition of its name says; the laws of proofs/ say that reading undoes writing, and writing reading.
+use model::Kind;
+use model::Layout;
+use model::Row;
+ghost use mathlib.Core.Path.{_≡_};
+ghost use mathlib.Core.Bool.{false};
+ghost use mathlib.Core.List.{_++_};
+ghost use Prim.Native.Nat.{_+_, _*_, _≤_, min};
+ghost use lib.IntN.{pos};
+ghost use lib.ListN.{length};
+ghost use Rattle.ground.specs.Tables.{tab, padded};
+ghost use Rattle.model.specs.Kinds.{widthOf, halfOf};
+ghost use Rattle.model.specs.Layouts.{Sized};
+ghost use Rattle.model.specs.Rows.{misfit};
+ghost use Rattle.binary_row.specs.Rows.{wordsOf, samplesEnd, rowSize, sampleAt, bitOf, statusAt, paddingFree, timeOfRow, rowCheck, rowOf, packed, samplesBytes, wordsBytes, headBytes, bytesOf};
+
+// Bytes of a row's number, and of its timestamp.
+const NUMBER: usize = 4;
+
+// Bytes of both.
+pub const HEAD: usize = 8;
+
+// Bytes of a status word, and the statuses that it holds.
+const WORD: usize = 2;
+
+const STATUSES: usize = 16;
+
+// The first number that is too large for a status word.
+const TOO_LARGE: u32 = 65536;
+
+// The lesser of two numbers.
+fn lesser(a: usize, b: usize) -> usize
+    ensures { λ r. ⌜ r ≡ min a b ⌝ }
+{
+    if a < b { a } else { b }
+}
+
+// Where the samples of a row end.
+pub fn samples_end(layout: Layout) -> usize
+    requires { ⌜ Sized layout ⌝ }
+    ensures { λ r. ⌜ r ≡ samplesEnd layout ⌝ }
+{
+    let kind = layout.kind;
+    let a = layout.analogs as usize;
+    HEAD + a * kind.width()
+}
+
+// Bytes of a row.
+pub fn row_size(layout: Layout) -> usize
+    requires { ⌜ Sized layout ⌝ }
+    ensures { λ r. ⌜ r ≡ rowSize layout ⌝ }
+{
+    let d = layout.statuses as usize;
+    samples_end(layout) + WORD * ((d + 15) / STATUSES)
+}
+
+// No bit past the d statuses of the words is set: the mask above d finds none.
+fn padding_free(d: usize, b: &[u8]) -> bool
+    requires { ⌜ (d ≤ 256) × (length (now b) ≡ 2 * wordsOf d) ⌝ }
+    ensures { λ r. ⌜ r ≡ paddingFree d (now (b .entry)) ⌝ }
+{
+    let k = d % STATUSES;
+    if k == 0 {
+        return true;
+    }
+    let from = d / STATUSES * WORD;
+    let to = from + WORD;
+    let word = words::word_of(&b[from..to]);
+    let mask = TOO_LARGE - (1u32 << k);
+    word & mask == 0
+}
+
+// What is wrong with the bytes of row n: 12 its number, 13 its padding, 0 nothing.
+pub fn row_check(layout: Layout, n: u32, bytes: &[u8]) -> u32
+    requires { ⌜ (Sized layout) × (length (now bytes) ≡ rowSize layout) ⌝ }
+    ensures { λ r. ⌜ r ≡ rowCheck layout n (now (bytes .entry)) ⌝ }
+{
+    let d = layout.statuses as usize;
+    let mid = samples_end(layout);
+    let end = bytes.len();
+    if words::word_of(&bytes[0..NUMBER]) != n {
+        return 12;
+    }
+    if !padding_free(d, &bytes[mid..end]) {
+        return 13;
+    }
+    0
+}
+
+// The a samples of the bytes, and zeros.
+fn samples_of(kind: Kind, a: usize, b: &[u8]) -> [i32; 96]
+    requires { ⌜ (a ≤ 96) × (length (now b) ≡ a * widthOf kind) ⌝ }
+    ensures { λ r. ⌜ r ≡ padded (sampleAt (widthOf kind) (halfOf kind) (now (b .entry))) a 96 (pos 0) ⌝ }
+{
+    let width = kind.width();
+    let half = kind.half();
+    let mut out = [0i32; 96];
+    let mut i = 0;
+    while i < a {
+        let from = i * width;
+        let to = from + width;
+        let n = words::word_of(&b[from..to]);
+        out[i] = words::signed_of(half, n);
+        i += 1;
+    }
+    out
+}
+
+// The low bits of a word fill the slice.
+fn unpack_word(word: u32, d: &mut [bool])
+    requires { ⌜ length (now d) ≤ 16 ⌝ }
+    ensures { λ _. ⌜ now (d .exit) ≡ tab (bitOf word) (length (now (d .entry))) ⌝ }
+{
+    let mut i = 0;
+    while i < d.len() {
+        d[i] = (word >> i) & 1 == 1;
+        i += 1;
+    }
+}
+
+// The statuses of the words fill the slice; each word is read once.
+fn unpack_words(b: &[u8], d: &mut [bool])
+    requires { ⌜ (length (now d) ≤ 256) × (length (now b) ≡ 2 * wordsOf (length (now d))) ⌝ }
+    ensures { λ _. ⌜ now (d .exit) ≡ tab (statusAt (now (b .entry))) (length (now (d .entry))) ⌝ }
+{
+    let n = d.len();
+    let words = b.len() / WORD;
+    let mut j = 0;
+    while j < words {
+        let at = j * WORD;
+        let end = at + WORD;
+        let word = words::word_of(&b[at..end]);
+        let from = j * STATUSES;
+        let to = lesser(from + STATUSES, n);
+        unpack_word(word, &mut d[from..to]);
+        j += 1;
+    }
+}
+
+// The d statuses of the words, and zeros.
+fn statuses_of(d: usize, b: &[u8]) -> [bool; 256]
+    requires { ⌜ (d ≤ 256) × (length (now b) ≡ 2 * wordsOf d) ⌝ }
+    ensures { λ r. ⌜ r ≡ padded (statusAt (now (b .entry))) d 256 false ⌝ }
+{
+    let mut out = [false; 256];
+    unpack_words(b, &mut out[..d]);
+    out
+}
+
+// The timestamp of a row.
+pub fn time_of(bytes: &[u8]) -> u32
+    requires { ⌜ 8 ≤ length (now bytes) ⌝ }
+    ensures { λ r. ⌜ r ≡ timeOfRow (now (bytes .entry)) ⌝ }
+{
+    words::word_of(&bytes[NUMBER..HEAD])
+}
+
+// The samples of a row, and zeros.
+pub fn row_samples(layout: Layout, bytes: &[u8]) -> [i32; 96]
+    requires { ⌜ (Sized layout) × (length (now bytes) ≡ rowSize layout) ⌝ }
+    ensures { λ r. ⌜ r ≡ rowOf layout (now (bytes .entry)) .samples ⌝ }
+{
+    let kind = layout.kind;
+    let a = layout.analogs as usize;
+    let mid = samples_end(layout);
+    samples_of(kind, a, &bytes[HEAD..mid])
+}
+
+// The row that the bytes are.
+pub fn row_of(layout: Layout, bytes: &[u8]) -> Row
+    requires { ⌜ (Sized layout) × (length (now bytes) ≡ rowSize layout) ⌝ }
+    ensures { λ r. ⌜ r ≡ rowOf layout (now (bytes .entry)) ⌝ }
+{
+    let d = layout.statuses as usize;
+    let mid = samples_end(layout);
+    let end = bytes.len();
+    let time = time_of(bytes);
+    let samples = row_samples(layout, bytes);
+    let statuses = statuses_of(d, &bytes[mid..end]);
+    Row {
+        time: time,
+        samples: samples,
+        statuses: statuses,
+    }
+}
+
+// A row's number and timestamp fill the slice.
+pub fn put_head(n: u32, time: u32, d: &mut [u8])
+    requires { ⌜ length (now d) ≡ 8 ⌝ }
+    ensures { λ _. ⌜ now (d .exit) ≡ headBytes n time ⌝ }
+{
+    words::put_word(&mut d[..NUMBER], n);
+    words::put_word(&mut d[NUMBER..HEAD], time);
+}
+
+// The first a samples fill the slice.
+fn put_samples(kind: Kind, zs: &[i32], a: usize, d: &mut [u8])
+    requires { ⌜ (a ≤ length (now zs)) × (length (now d) ≡ a * widthOf kind) × (misfit kind (now zs) a ≡ a) ⌝ }
+    ensures { λ _. ⌜ now (d .exit) ≡ samplesBytes (widthOf kind) (halfOf kind) a (now (zs .entry)) ⌝ }
+{
+    let width = kind.width();
+    let half = kind.half();
+    let mut i = 0;
+    while i < a {
+        let from = i * width;
+        let to = from + width;
+        let z = zs[i];
+        let n = words::unsigned_of(half, z);
+        words::put_word(&mut d[from..to], n);
+        i += 1;
+    }
+}
+
+// The word of at most sixteen statuses, the first in the lowest bit.
+fn pack_word(s: &[bool]) -> u32
+    requires { ⌜ length (now s) ≤ 16 ⌝ }
+    ensures { λ r. ⌜ r ≡ packed (now (s .entry)) ⌝ }
+{
+    let mut word: u32 = 0;
+    let mut i = s.len();
+    while 0 < i {
+        i -= 1;
+        word = word << 1;
+        if s[i] {
+            word = word | 1;
+        }
+    }
+    word
+}
+
+// The words of the first count statuses fill the slice.
+fn put_words(s: &[bool], count: usize, d: &mut [u8])
+    requires { ⌜ (count ≤ 256) × (count ≤ length (now s)) × (length (now d) ≡ 2 * wordsOf count) ⌝ }
+    ensures { λ _. ⌜ now (d .exit) ≡ wordsBytes count (now (s .entry)) ⌝ }
+{
+    let words = d.len() / WORD;
+    let mut j = 0;
+    while j < words {
+        let from = j * STATUSES;
+        let to = lesser(from + STATUSES, count);
+        let word = pack_word(&s[from..to]);
+        let at = j * WORD;
+        let end = at + WORD;
+        words::put_word(&mut d[at..end], word);
+        j += 1;
+    }
+}
+
+// The first a samples and the words of the first count statuses fill the slice.
+fn put_body(kind: Kind, zs: &[i32], a: usize, s: &[bool], count: usize, d: &mut [u8])
+    requires { ⌜ (a ≤ length (now zs)) × (misfit kind (now zs) a ≡ a) ⌝ }
+    requires { ⌜ (count ≤ 256) × (count ≤ length (now s)) × (length (now d) ≡ a * widthOf kind + 2 * wordsOf count) ⌝ }
+    ensures { λ _. ⌜ now (d .exit) ≡ samplesBytes (widthOf kind) (halfOf kind) a (now (zs .entry)) ++ wordsBytes count (now (s .entry)) ⌝ }
+{
+    let mid = a * kind.width();
+    let end = d.len();
+    put_samples(kind, zs, a, &mut d[..mid]);
+    put_words(s, count, &mut d[mid..end]);
+}
+
+// The bytes of row n fill the slice.
+pub fn put_row(layout: Layout, n: u32, row: Row, d: &mut [u8])
+    requires { ⌜ (Sized layout) × (length (now d) ≡ rowSize layout) × (misfit (layout .kind) (row .samples) (layout .analogs) ≡ layout .analogs) ⌝ }
+    ensures { λ _. ⌜ now (d .exit) ≡ bytesOf layout n row ⌝ }
+{
+    let kind = layout.kind;
+    let a = layout.analogs as usize;
+    let count = layout.statuses as usize;
+    let end = d.len();
+    let time = row.time;
+    let zs = row.samples;
+    let s = row.statuses;
+    put_head(n, time, &mut d[..HEAD]);
+    put_body(kind, &zs, a, &s, count, &mut d[HEAD..end]);
+}

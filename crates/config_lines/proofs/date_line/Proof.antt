@@ -1,0 +1,76 @@
+-- `date_line` meets its contract.
+use borrow.Author.Tests.{eq-eqb, ne-eqb}
+use Rattle.config_lines.specs.Lines.{dateLine}
+use Rattle.config_lines.specs.Inner.{withTime}
+use borrow.Author.Needs.{needs}
+use Rattle.config_lines.proofs.date_line.Statement.{statement}
+use Rattle.config_lines.proofs.date_line.Tie as tie
+
+field-count-requires : tie.Need-field-count-requires
+field-count-requires c κs = search needs
+
+no-date-requires : tie.Need-no-date-requires
+no-date-requires c κs = search needs
+
+returns : tie.Need-returns
+unfolding dateLine
+returns c = rw (c .no-date .ensures, ← c .before .before .field-count .ensures, ne-eqb _ 2 (c .before .if1 .taken))
+
+field-at-requires : tie.Need-field-at-requires
+field-at-requires c κs = search needs
+
+read-date-requires : tie.Need-read-date-requires
+read-date-requires c κs = search needs
+
+enum-told : tie.Need-enum-told
+enum-told c = search needs
+
+no-date-requires-2 : tie.Need-no-date-requires-2
+no-date-requires-2 c κs = search needs
+
+enum-told-2 : tie.Need-enum-told-2
+enum-told-2 c = search needs
+
+no-date-requires-3 : tie.Need-no-date-requires-3
+no-date-requires-3 c κs = search needs
+
+enum-known-date : tie.Need-enum-known-date
+enum-known-date c = search needs
+
+field-at-requires-2 : tie.Need-field-at-requires-2
+field-at-requires-2 c κs = search needs
+
+with-time-requires : tie.Need-with-time-requires
+with-time-requires c κs = search needs
+
+returns-2 : tie.Need-returns-2
+unfolding dateLine
+returns-2 c = rw (c .no-date2 .ensures, ← c .before .before .before .before .before .before .field-count .ensures, eq-eqb _ 2 (c .before .before .before .before .before .if1 .left), ← c .before .before .before .before .field-at .ensures, ← c .before .before .before .read-date .ensures, c .before .enum-told .given .1)
+
+returns-3 : tie.Need-returns-3
+unfolding dateLine
+returns-3 c = rw (c .no-date3 .ensures, ← c .before .before .before .before .before .before .field-count .ensures, eq-eqb _ 2 (c .before .before .before .before .before .if1 .left), ← c .before .before .before .before .field-at .ensures, ← c .before .before .before .read-date .ensures, c .before .enum-told2 .given .1)
+
+returns-4 : tie.Need-returns-4
+unfolding dateLine withTime
+returns-4 c = rw (c .with-time .ensures, ← c .before .before .before .before .before .before .before .before .field-count .ensures, eq-eqb _ 2 (c .before .before .before .before .before .before .before .if1 .left), ← c .before .before .before .before .before .before .field-at .ensures, ← c .before .before .before .before .before .read-date .ensures, c .before .before .before .date .given .1, ← c .before .field-at2 .ensures)
+
+pub date-line-spec : {M : Type 1} → statement M
+date-line-spec =
+    tie.close
+    (tie.spec
+    field-count-requires
+    no-date-requires
+    returns
+    field-at-requires
+    read-date-requires
+    enum-told
+    no-date-requires-2
+    enum-told-2
+    no-date-requires-3
+    enum-known-date
+    field-at-requires-2
+    with-time-requires
+    returns-2
+    returns-3
+    returns-4)

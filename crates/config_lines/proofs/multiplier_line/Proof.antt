@@ -1,0 +1,50 @@
+-- `multiplier_line` meets its contract: each return follows from the checks before it.
+use borrow.Author.Tests.{eq-eqb, ne-eqb}
+use Rattle.config_lines.specs.Lines.{multiplierLine}
+use borrow.Author.Needs.{needs}
+use Rattle.config_lines.proofs.multiplier_line.Statement.{statement}
+use Rattle.config_lines.proofs.multiplier_line.Tie as tie
+
+field-count-requires : tie.Need-field-count-requires
+field-count-requires c κs = search needs
+
+at-requires : tie.Need-at-requires
+at-requires c κs = search needs
+
+returns : tie.Need-returns
+unfolding multiplierLine
+returns c = rw (c .at .ensures, ← c .before .before .field-count .ensures, ne-eqb _ 1 (c .before .if1 .taken))
+
+field-at-requires : tie.Need-field-at-requires
+field-at-requires c κs = search needs
+
+above-fault-requires : tie.Need-above-fault-requires
+above-fault-requires c κs = search needs
+
+at-requires-2 : tie.Need-at-requires-2
+at-requires-2 c κs = search needs
+
+returns-2 : tie.Need-returns-2
+unfolding multiplierLine
+returns-2 c = rw (c .at2 .ensures, ← c .before .before .before .before .before .field-count .ensures, eq-eqb _ 1 (c .before .before .before .before .if1 .left), ← c .before .before .before .field-at .ensures, ← c .before .before .above-fault .ensures, ne-eqb _ 0 (c .before .if2 .taken))
+
+at-requires-3 : tie.Need-at-requires-3
+at-requires-3 c κs = search needs
+
+returns-3 : tie.Need-returns-3
+unfolding multiplierLine
+returns-3 c = rw (c .at3 .ensures, ← c .before .before .before .before .before .field-count .ensures, eq-eqb _ 1 (c .before .before .before .before .if1 .left), ← c .before .before .before .field-at .ensures, ← c .before .before .above-fault .ensures, eq-eqb _ 0 (c .before .if2 .left))
+
+pub multiplier-line-spec : {M : Type 1} → statement M
+multiplier-line-spec =
+    tie.close
+    (tie.spec
+    field-count-requires
+    at-requires
+    returns
+    field-at-requires
+    above-fault-requires
+    at-requires-2
+    returns-2
+    at-requires-3
+    returns-3)

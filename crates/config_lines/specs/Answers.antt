@@ -1,0 +1,60 @@
+-- What the code answers for a line: its values, or its fault and zeros beside it.
+use mathlib.Core.Bool.{Bool, false}
+use Prim.Native.Nat.{ℕ}
+use lib.IntN.{ℤ, pos}
+use Rattle.ground.specs.Said.{Said, says, refuses}
+use Rattle.clock.specs.declared.Date.{Date}
+use Rattle.clock.specs.declared.Time.{Time}
+use Rattle.model.specs.declared.Kind.{Kind}
+use Rattle.model.specs.declared.Kind.the-variants.{Ascii}
+use Rattle.config_lines.specs.declared.Fault.{Fault}
+use Rattle.config_lines.specs.declared.Channels.{Channels}
+use Rattle.config_lines.specs.declared.Counted.{Counted}
+use Rattle.config_lines.specs.declared.Dated.{Dated}
+use Rattle.config_lines.specs.declared.Kinded.{Kinded}
+use Rattle.config_lines.specs.declared.Coded.{Coded}
+use Rattle.config_lines.specs.declared.Quality.{Quality}
+use Rattle.config_lines.specs.Lines.{fault}
+
+-- a line's fault, zeros for none
+abbrev pub faultOf : {A : Type 0} → Said Fault A → Fault
+faultOf (says a) = fault 0 0
+faultOf (refuses f) = f
+
+-- A and D
+abbrev pub channelsOf : Said Fault (ℕ × ℕ) → Channels
+channelsOf (says (a, d)) = record { fault = fault 0 0; analogs = a; statuses = d }
+channelsOf (refuses f) = record { fault = f; analogs = 0; statuses = 0 }
+
+-- the number of rates, or a last row
+abbrev pub countedOf : Said Fault ℕ → Counted
+countedOf (says v) = record { fault = fault 0 0; value = v }
+countedOf (refuses f) = record { fault = f; value = 0 }
+
+-- the date of zeros
+abbrev pub noDate : Date
+noDate = record { day = 0; month = 0; year = 0 }
+
+-- the time of zeros
+abbrev pub noTime : Time
+noTime = record { hour = 0; minute = 0; second = 0; nanosecond = 0 }
+
+-- a date and a time
+abbrev pub datedOf : Said Fault (Date × Time) → Dated
+datedOf (says (d, t)) = record { fault = fault 0 0; date = d; time = t }
+datedOf (refuses f) = record { fault = f; date = noDate; time = noTime }
+
+-- the kind, ASCII beside a refusal
+abbrev pub kindedOf : Said Fault Kind → Kinded
+kindedOf (says k) = record { fault = fault 0 0; kind = k }
+kindedOf (refuses f) = record { fault = f; kind = Ascii }
+
+-- the time codes
+abbrev pub codedOf : Said Fault (ℤ × Bool × ℤ) → Coded
+codedOf (says (m, x, n)) = record { fault = fault 0 0; code = m; x = x; local = n }
+codedOf (refuses f) = record { fault = f; code = pos 0; x = false; local = pos 0 }
+
+-- time quality and leap second code
+abbrev pub qualityOf : Said Fault (ℕ × ℕ) → Quality
+qualityOf (says (q, p)) = record { fault = fault 0 0; quality = q; leap = p }
+qualityOf (refuses f) = record { fault = f; quality = 0; leap = 0 }

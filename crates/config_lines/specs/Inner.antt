@@ -1,0 +1,32 @@
+-- NOTHING TO BELIEVE HERE: what the parts of a line's reader say; the reader's own contract says the whole line.
+use mathlib.Core.Bool.{Bool, not}
+use mathlib.Core.List.{List}
+use Prim.Native.Nat.{ℕ}
+use lib.IntN.{ℤ}
+use Rattle.ground.specs.Said.{Said, says, _>>=_, must}
+use Rattle.reals.specs.declared.Exact.{Exact}
+use Rattle.reals.specs.Exact.{readLimit, maxBelow}
+use Rattle.clock.specs.declared.Date.{Date}
+use Rattle.clock.specs.declared.Time.{Time}
+use Rattle.clock.specs.Times.{readTime}
+use Rattle.clock.specs.Codes.{readLocalCode}
+use Rattle.config_lines.specs.declared.Fault.{Fault}
+use Rattle.config_lines.specs.Lines.{fault, limitAt, timeAt, localAt}
+
+-- max, which is not below min
+unfoldable pub maxFrom : Exact → List ℕ → Said Fault (Unit {0})
+maxFrom min l = do
+  max ← limitAt 10 (readLimit l)
+  must (not (maxBelow max min)) (fault 7 10)
+
+-- a date and the time in a field
+unfoldable pub withTime : Date → List ℕ → Said Fault (Date × Time)
+withTime d l = do
+  t ← timeAt 2 (readTime l)
+  says (d, t)
+
+-- a time code and the local code in a field
+unfoldable pub withLocal : ℤ → List ℕ → Said Fault (ℤ × Bool × ℤ)
+withLocal m l = do
+  (x, n) ← localAt 2 (readLocalCode l)
+  says (m, x, n)

@@ -1,0 +1,31 @@
+-- `take_counts` meets its contract.
+use native.Mathlib.Omega.{arith}
+use Rattle.config_lines.proofs.Laws.{channels-le}
+use Rattle.config_rules.specs.Inner.{takeLine, withCounts}
+use borrow.Author.Needs.{needs}
+use Rattle.config_rules.proofs.take_counts.Statement.{statement}
+use Rattle.config_rules.proofs.take_counts.Tie as tie
+
+channels-line-requires : tie.Need-channels-line-requires
+channels-line-requires c κs = search needs
+
+cast-e : tie.Need-cast-e
+cast-e c = omega (arith, rw (← c .before .before .channels-line .ensures) at (channels-le (c .before .before .before .before .args .line .now) .0))
+
+cast-e-2 : tie.Need-cast-e-2
+cast-e-2 c = omega (arith, rw (← c .before .before .before .channels-line .ensures) at (channels-le (c .before .before .before .before .before .args .line .now) .1))
+
+after-analog-requires : tie.Need-after-analog-requires
+after-analog-requires c κs = search needs
+
+judged-requires : tie.Need-judged-requires
+judged-requires c κs = search needs
+
+returns : tie.Need-returns
+unfolding takeLine withCounts
+returns c = rw (c .judged .ensures, c .before .after-analog .ensures, c .before .before .before .before .before .channels-line .ensures)
+
+pub take-counts-spec : {M : Type 1} → statement M
+take-counts-spec =
+    tie.close
+    (tie.spec channels-line-requires cast-e cast-e-2 after-analog-requires judged-requires returns)

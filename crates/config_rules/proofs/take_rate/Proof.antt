@@ -1,0 +1,42 @@
+-- `take_rate` meets its contract.
+use lib.Dec.{eqb}
+use native.Mathlib.Omega.{arith}
+use Rattle.config_lines.proofs.Laws.{rate-le}
+use Rattle.config_rules.specs.Inner.{takeLine}
+use borrow.Author.Needs.{needs}
+use Rattle.config_rules.proofs.take_rate.Statement.{statement}
+use Rattle.config_rules.proofs.take_rate.Tie as tie
+
+cast-rate-line : tie.Need-cast-rate-line
+cast-rate-line c = search needs
+
+rate-line-requires : tie.Need-rate-line-requires
+rate-line-requires c κs = search needs
+
+after-rate-requires : tie.Need-after-rate-requires
+after-rate-requires c κs = search needs
+
+cast-with-last : tie.Need-cast-with-last
+cast-with-last c = omega (arith, rw (← c .before .before .before .rate-line .ensures) at (rate-le (eqb (c .before .before .before .before .before .before .before .args .c .rates) 0) (c .before .before .before .before .before .before .before .args .c .rows) (c .before .before .before .before .before .before .before .args .line .now)))
+
+with-last-requires : tie.Need-with-last-requires
+with-last-requires c κs = search needs
+
+judged-requires : tie.Need-judged-requires
+judged-requires c κs = search needs
+
+returns : tie.Need-returns
+unfolding takeLine
+returns c = rw (c .judged .ensures, c .before .before .before .after-rate .ensures, c .before .with-last .ensures, c .before .before .before .before .before .rate-line .ensures)
+
+pub take-rate-spec : {M : Type 1} → statement M
+take-rate-spec =
+    tie.close
+    (tie.spec
+    cast-rate-line
+    rate-line-requires
+    after-rate-requires
+    cast-with-last
+    with-last-requires
+    judged-requires
+    returns)

@@ -1,0 +1,129 @@
+-- NOTHING TO BELIEVE HERE: what each function of the code says, line by line; the law `paper-agrees` (proofs/PaperLaws.antt) of the crate `config` says that all of them together are `readConfig`.
+-- A configuration is read line by line. The rule of a line says what the line must be, what it adds to the configuration, and which rule comes next.
+use mathlib.Core.Bool.{Bool, true}
+use mathlib.Core.Path.{_≡_}
+use mathlib.Core.List.{List}
+use Prim.Native.Nat.{ℕ, _+_, _-_}
+use lib.Dec.{eqb, ltb}
+use lib.IntN.{ℤ, pos}
+use lib.ListN.{set}
+use Rattle.ground.specs.Choice.{if_then_else_}
+use Rattle.config_lines.specs.declared.Fault.{Fault}
+use Rattle.config_lines.specs.declared.Dated.{Dated}
+use Rattle.config_lines.specs.Lines.{fault, firstLine, channelsLine, analogLine, statusLine, frequencyLine, ratesLine, rateLine, dateLine, kindLine, multiplierLine, codesLine, qualityLine}
+use Rattle.config_lines.specs.Answers.{faultOf, channelsOf, countedOf, datedOf, kindedOf, codedOf, qualityOf}
+use Rattle.clock.specs.declared.Span.{Span}
+use Rattle.clock.specs.Dates.{validDate}
+use Rattle.clock.specs.Times.{validTime}
+use Rattle.clock.specs.Spans.{preTrigger}
+use Rattle.model.specs.declared.Kind.{Kind}
+use Rattle.config_rules.specs.declared.Moment.{Moment}
+use Rattle.config_rules.specs.declared.Config.{Config}
+use Rattle.config_rules.specs.declared.Rule.{Rule}
+use Rattle.config_rules.specs.declared.Rule.the-variants.{Station, Counts, Analog, Status, Frequency, RateCount, Rate, First, Trigger, KindWord, Multiplier, Codes, Quality, Done}
+use Rattle.config_rules.specs.declared.Taken.{Taken}
+
+-- the line after that of status channel i; where i is 0, the line before the first of them
+unfoldable pub afterStatus : ℕ → ℕ → Rule
+afterStatus i statuses = if ltb i statuses then Status (i + 1) else Frequency
+
+-- the line after that of analog channel i
+unfoldable pub afterAnalog : ℕ → ℕ → ℕ → Rule
+afterAnalog i analogs statuses = if ltb i analogs then Analog (i + 1) else afterStatus 0 statuses
+
+-- the line after that of rate i, counted from 0
+unfoldable pub afterRate : ℕ → ℕ → Rule
+afterRate i rates = if ltb i (rates - 1) then Rate (i + 1) else First
+
+-- A configuration in which some values are replaced
+-- A and D
+unfoldable pub withCounts : ℕ → ℕ → Config → Config
+withCounts a d c =
+    record { analogs = a; statuses = d; rates = c .rates; lasts = c .lasts; rows = c .rows; first = c .first; trigger = c .trigger; pretrigger = c .pretrigger; kind = c .kind; code = c .code; x = c .x; local = c .local; quality = c .quality; leap = c .leap }
+
+-- the number of rates
+unfoldable pub withRates : ℕ → Config → Config
+withRates r c =
+    record { analogs = c .analogs; statuses = c .statuses; rates = r; lasts = c .lasts; rows = c .rows; first = c .first; trigger = c .trigger; pretrigger = c .pretrigger; kind = c .kind; code = c .code; x = c .x; local = c .local; quality = c .quality; leap = c .leap }
+
+-- rate i's last row
+unfoldable pub withLast : ℕ → ℕ → Config → Config
+withLast i v c =
+    record { analogs = c .analogs; statuses = c .statuses; rates = c .rates; lasts = set (c .lasts) i v; rows = v; first = c .first; trigger = c .trigger; pretrigger = c .pretrigger; kind = c .kind; code = c .code; x = c .x; local = c .local; quality = c .quality; leap = c .leap }
+
+-- the first sample
+unfoldable pub withFirst : Moment → Config → Config
+withFirst m c =
+    record { analogs = c .analogs; statuses = c .statuses; rates = c .rates; lasts = c .lasts; rows = c .rows; first = m; trigger = c .trigger; pretrigger = c .pretrigger; kind = c .kind; code = c .code; x = c .x; local = c .local; quality = c .quality; leap = c .leap }
+
+-- the trigger, and the time before it
+unfoldable pub withTrigger : Moment → Span → Config → Config
+withTrigger m p c =
+    record { analogs = c .analogs; statuses = c .statuses; rates = c .rates; lasts = c .lasts; rows = c .rows; first = c .first; trigger = m; pretrigger = p; kind = c .kind; code = c .code; x = c .x; local = c .local; quality = c .quality; leap = c .leap }
+
+-- the kind
+unfoldable pub withKind : Kind → Config → Config
+withKind k c =
+    record { analogs = c .analogs; statuses = c .statuses; rates = c .rates; lasts = c .lasts; rows = c .rows; first = c .first; trigger = c .trigger; pretrigger = c .pretrigger; kind = k; code = c .code; x = c .x; local = c .local; quality = c .quality; leap = c .leap }
+
+-- the time codes
+unfoldable pub withCodes : ℤ → Bool → ℤ → Config → Config
+withCodes t x m c =
+    record { analogs = c .analogs; statuses = c .statuses; rates = c .rates; lasts = c .lasts; rows = c .rows; first = c .first; trigger = c .trigger; pretrigger = c .pretrigger; kind = c .kind; code = t; x = x; local = m; quality = c .quality; leap = c .leap }
+
+-- quality and leap code
+unfoldable pub withQuality : ℕ → ℕ → Config → Config
+withQuality q p c =
+    record { analogs = c .analogs; statuses = c .statuses; rates = c .rates; lasts = c .lasts; rows = c .rows; first = c .first; trigger = c .trigger; pretrigger = c .pretrigger; kind = c .kind; code = c .code; x = c .x; local = c .local; quality = q; leap = p }
+
+-- trigger minus first sample, where there is a trigger
+unfoldable pub spanTo : Moment → Dated → Span
+spanTo first d = if eqb (d .fault .number) 0 then preTrigger (first .date) (first .time) (d .date) (d .time) else record { seconds = pos 0; nanoseconds = 0 }
+
+-- a date line's moment
+abbrev pub moment : Dated → Moment
+moment d = record { date = d .date; time = d .time }
+
+-- a line that was judged
+abbrev pub taken : Fault → Rule → Config → Taken
+taken fault rule config = record { fault = fault; rule = rule; config = config }
+
+-- a line by its rule
+unfoldable pub takeLine : Rule → Config → List ℕ → Taken
+takeLine Station c l = taken (faultOf (firstLine l)) Counts c
+takeLine Counts c l =
+    let k = channelsOf (channelsLine l) in
+    taken (k .fault) (afterAnalog 0 (k .analogs) (k .statuses)) (withCounts (k .analogs) (k .statuses) c)
+takeLine (Analog i) c l = taken (faultOf (analogLine i l)) (afterAnalog i (c .analogs) (c .statuses)) c
+takeLine (Status i) c l = taken (faultOf (statusLine i l)) (afterStatus i (c .statuses)) c
+takeLine Frequency c l = taken (faultOf (frequencyLine l)) RateCount c
+takeLine RateCount c l = let k = countedOf (ratesLine l) in taken (k .fault) (Rate 0) (withRates (k .value) c)
+takeLine (Rate i) c l = let k = countedOf (rateLine (eqb (c .rates) 0) (c .rows) l) in taken (k .fault) (afterRate i (c .rates)) (withLast i (k .value) c)
+takeLine First c l = let k = datedOf (dateLine l) in taken (k .fault) Trigger (withFirst (moment k) c)
+takeLine Trigger c l = let k = datedOf (dateLine l) in taken (k .fault) KindWord (withTrigger (moment k) (spanTo (c .first) k) c)
+takeLine KindWord c l = let k = kindedOf (kindLine l) in taken (k .fault) Multiplier (withKind (k .kind) c)
+takeLine Multiplier c l = taken (faultOf (multiplierLine l)) Codes c
+takeLine Codes c l = let k = codedOf (codesLine l) in taken (k .fault) Quality (withCodes (k .code) (k .x) (k .local) c)
+takeLine Quality c l = let k = qualityOf (qualityLine l) in taken (k .fault) Done (withQuality (k .quality) (k .leap) c)
+takeLine Done c l = taken (fault 0 0) Done c
+
+-- a date line that is fine has a date and a time of the calendar
+abbrev pub Fine : Dated → Type 0
+Fine d = d .fault .number ≡ 0 → (validDate (d .date) ≡ true) × (validTime (d .time) ≡ true)
+
+-- the trigger's line comes after a first sample of the calendar
+unfoldable pub Ready : Rule → Config → Type 0
+Ready Station c = Unit {0}
+Ready Counts c = Unit {0}
+Ready (Analog i) c = Unit {0}
+Ready (Status i) c = Unit {0}
+Ready Frequency c = Unit {0}
+Ready RateCount c = Unit {0}
+Ready (Rate i) c = Unit {0}
+Ready First c = Unit {0}
+Ready Trigger c = (validDate (c .first .date) ≡ true) × (validTime (c .first .time) ≡ true)
+Ready KindWord c = Unit {0}
+Ready Multiplier c = Unit {0}
+Ready Codes c = Unit {0}
+Ready Quality c = Unit {0}
+Ready Done c = Unit {0}

@@ -1,0 +1,32 @@
+-- What a configuration shows before any line is read, and beside a refusal.
+use mathlib.Core.Bool.{false}
+use lib.IntN.{pos}
+use lib.ListN.{replicate}
+use Rattle.config_lines.specs.Answers.{noDate, noTime}
+use Rattle.model.specs.declared.Kind.the-variants.{Ascii}
+use Rattle.config_rules.specs.declared.Moment.{Moment}
+use Rattle.config_rules.specs.declared.Config.{Config}
+
+-- the moment of zeros that stands beside a refusal
+abbrev pub noMoment : Moment
+noMoment = record { date = noDate; time = noTime }
+
+-- zeros for everything
+unfoldable pub noConfig : Config
+noConfig =
+    record {
+      analogs = 0;
+      statuses = 0;
+      rates = 0;
+      lasts = replicate 8 0;
+      rows = 0;
+      first = noMoment;
+      trigger = noMoment;
+      pretrigger = record { seconds = pos 0; nanoseconds = 0 };
+      kind = Ascii;
+      code = pos 0;
+      x = false;
+      local = pos 0;
+      quality = 0;
+      leap = 0;
+    }

@@ -1,0 +1,311 @@
+// The rules of a configuration's lines: what a line must be, what it adds to the configuration, and which rule comes next.
+// Each function gives exactly what the definition of its name says, on any bytes; the rule of a line is found from what the lines before it said, never from the bytes.
+use clock::Date;
+use clock::Span;
+use clock::Time;
+use config_lines::Dated;
+use config_lines::Fault;
+use model::Kind;
+ghost use mathlib.Core.Path.{_≡_};
+ghost use mathlib.Core.Bool.{true};
+ghost use Rattle.config_rules.specs.Inner.{afterAnalog, afterStatus, afterRate, withLast, withKind, takeLine, spanTo, Fine, Ready};
+ghost use Rattle.clock.specs.Dates.{validDate};
+ghost use Rattle.clock.specs.Times.{validTime};
+
+// A date and a time.
+pub struct Moment {
+    pub date: Date,
+    pub time: Time,
+}
+
+// What an accepted configuration shows.
+pub struct Config {
+    pub analogs: u32,
+    pub statuses: u32,
+    pub rates: u32,
+    pub lasts: [u32; 8],
+    pub rows: u32,
+    pub first: Moment,
+    pub trigger: Moment,
+    pub pretrigger: Span,
+    pub kind: Kind,
+    pub code: i64,
+    pub x: bool,
+    pub local: i64,
+    pub quality: u32,
+    pub leap: u32,
+}
+
+// The rule of the next line: the i-th channel from 1, the i-th rate from 0; or no line is left.
+pub enum Rule {
+    Station,
+    Counts,
+    Analog(u32),
+    Status(u32),
+    Frequency,
+    RateCount,
+    Rate(u32),
+    First,
+    Trigger,
+    KindWord,
+    Multiplier,
+    Codes,
+    Quality,
+    Done,
+}
+
+// A line that was judged: its fault, the rule of the line after it, and what is shown so far.
+pub struct Taken {
+    pub fault: Fault,
+    pub rule: Rule,
+    pub config: Config,
+}
+
+// The rule after that of analog channel i; where i is 0, of the first.
+fn after_analog(i: u32, analogs: u32, statuses: u32) -> Rule
+    ensures { λ r. ⌜ r ≡ afterAnalog i analogs statuses ⌝ }
+{
+    if i < analogs {
+        return Rule::Analog(i + 1);
+    }
+    after_status(0, statuses)
+}
+
+// The rule after that of status channel i, likewise.
+fn after_status(i: u32, statuses: u32) -> Rule
+    ensures { λ r. ⌜ r ≡ afterStatus i statuses ⌝ }
+{
+    if i < statuses {
+        return Rule::Status(i + 1);
+    }
+    Rule::Frequency
+}
+
+// The rule after that of rate i, counted from 0; no rates have one line all the same.
+fn after_rate(i: u32, rates: u32) -> Rule
+    ensures { λ r. ⌜ r ≡ afterRate i rates ⌝ }
+{
+    if 0 < rates {
+        if i < rates - 1 {
+            return Rule::Rate(i + 1);
+        }
+    }
+    Rule::First
+}
+
+// The configuration with the last row of rate i, which is the number of rows so far.
+fn with_last(c: Config, i: u32, last: u32) -> Config
+    ensures { λ r. ⌜ r ≡ withLast i last c ⌝ }
+{
+    let mut e = c;
+    e.rows = last;
+    let j = i as usize;
+    if j < 8 {
+        e.lasts[j] = last;
+    }
+    e
+}
+
+// The configuration with its kind.
+fn with_kind(c: Config, kind: Kind) -> Config
+    ensures { λ r. ⌜ r ≡ withKind kind c ⌝ }
+{
+    let lasts = c.lasts;
+    let first = c.first;
+    let trigger = c.trigger;
+    let span = c.pretrigger;
+    Config {
+        analogs: c.analogs,
+        statuses: c.statuses,
+        rates: c.rates,
+        lasts: lasts,
+        rows: c.rows,
+        first: first,
+        trigger: trigger,
+        pretrigger: span,
+        kind: kind,
+        code: c.code,
+        x: c.x,
+        local: c.local,
+        quality: c.quality,
+        leap: c.leap,
+    }
+}
+
+// The three together.
+fn judged(fault: Fault, rule: Rule, config: Config) -> Taken
+    ensures { λ r. ⌜ r ≡ record { fault = fault; rule = rule; config = config } ⌝ }
+{
+    Taken {
+        fault: fault,
+        rule: rule,
+        config: config,
+    }
+}
+
+// TT, A and D: what is left to read follows from them.
+fn take_counts(line: &[u8], c: Config) -> Taken
+    ensures { λ r. ⌜ r ≡ takeLine Rule.Counts c (now (line .entry)) ⌝ }
+{
+    let k = config_lines::channels_line(line);
+    let fault = k.fault;
+    let mut e = c;
+    e.analogs = k.analogs as u32;
+    e.statuses = k.statuses as u32;
+    judged(fault, after_analog(0, e.analogs, e.statuses), e)
+}
+
+// The number of rates.
+fn take_rate_count(line: &[u8], c: Config) -> Taken
+    ensures { λ r. ⌜ r ≡ takeLine Rule.RateCount c (now (line .entry)) ⌝ }
+{
+    let k = config_lines::rates_line(line);
+    let fault = k.fault;
+    let mut e = c;
+    e.rates = k.value as u32;
+    judged(fault, Rule::Rate(0), e)
+}
+
+// A rate and its last row, which must be above the one before it.
+fn take_rate(line: &[u8], c: Config, i: u32) -> Taken
+    ensures { λ r. ⌜ r ≡ takeLine (Rule.Rate i) c (now (line .entry)) ⌝ }
+{
+    let k = config_lines::rate_line(line, c.rates == 0, c.rows as u64);
+    let fault = k.fault;
+    judged(
+        fault,
+        after_rate(i, c.rates),
+        with_last(c, i, k.value as u32),
+    )
+}
+
+// The first sample's date and time.
+fn take_first(line: &[u8], c: Config) -> Taken
+    ensures { λ r. ⌜ r ≡ takeLine Rule.First c (now (line .entry)) ⌝ }
+{
+    let k = config_lines::date_line(line);
+    let fault = k.fault;
+    let date = k.date;
+    let time = k.time;
+    let first = Moment {
+        date: date,
+        time: time,
+    };
+    let mut e = c;
+    e.first = first;
+    judged(fault, Rule::Trigger, e)
+}
+
+// Trigger minus first sample, where there is a trigger.
+fn span_to(first: Moment, k: Dated) -> Span
+    requires { ⌜ (validDate (first .date) ≡ true) × (validTime (first .time) ≡ true) ⌝ }
+    requires { ⌜ Fine k ⌝ }
+    ensures { λ r. ⌜ r ≡ spanTo first k ⌝ }
+{
+    let fault = k.fault;
+    if fault.number != 0 {
+        return Span {
+            seconds: 0,
+            nanoseconds: 0,
+        };
+    }
+    let a = first.date;
+    let b = first.time;
+    let d = k.date;
+    let e = k.time;
+    clock::pre_trigger(a, b, d, e)
+}
+
+// The trigger's date and time, and the time before it.
+fn take_trigger(line: &[u8], c: Config) -> Taken
+    requires { ⌜ Ready Rule.Trigger c ⌝ }
+    ensures { λ r. ⌜ r ≡ takeLine Rule.Trigger c (now (line .entry)) ⌝ }
+{
+    let k = config_lines::date_line(line);
+    let fault = k.fault;
+    let first = c.first;
+    let span = span_to(first, k);
+    let date = k.date;
+    let time = k.time;
+    let trigger = Moment {
+        date: date,
+        time: time,
+    };
+    let mut e = c;
+    e.trigger = trigger;
+    e.pretrigger = span;
+    judged(fault, Rule::KindWord, e)
+}
+
+// The kind's word.
+fn take_kind(line: &[u8], c: Config) -> Taken
+    ensures { λ r. ⌜ r ≡ takeLine Rule.KindWord c (now (line .entry)) ⌝ }
+{
+    let k = config_lines::kind_line(line);
+    let fault = k.fault;
+    let kind = k.kind;
+    judged(fault, Rule::Multiplier, with_kind(c, kind))
+}
+
+// The two time codes.
+fn take_codes(line: &[u8], c: Config) -> Taken
+    ensures { λ r. ⌜ r ≡ takeLine Rule.Codes c (now (line .entry)) ⌝ }
+{
+    let k = config_lines::codes_line(line);
+    let fault = k.fault;
+    let mut e = c;
+    e.code = k.code;
+    e.x = k.x;
+    e.local = k.local;
+    judged(fault, Rule::Quality, e)
+}
+
+// Quality and leap second code, on the last line.
+fn take_quality(line: &[u8], c: Config) -> Taken
+    ensures { λ r. ⌜ r ≡ takeLine Rule.Quality c (now (line .entry)) ⌝ }
+{
+    let k = config_lines::quality_line(line);
+    let fault = k.fault;
+    let mut e = c;
+    e.quality = k.quality as u32;
+    e.leap = k.leap as u32;
+    judged(fault, Rule::Done, e)
+}
+
+// A line by its rule. What is shown beside a fault is shown to nobody.
+pub fn take_line(line: &[u8], rule: Rule, c: Config) -> Taken
+    requires { ⌜ Ready rule c ⌝ }
+    ensures { λ r. ⌜ r ≡ takeLine rule c (now (line .entry)) ⌝ }
+{
+    match rule {
+        Rule::Station => judged(config_lines::first_line(line), Rule::Counts, c),
+        Rule::Counts => take_counts(line, c),
+        Rule::Analog(i) => judged(
+            config_lines::analog_line(line, i as u64),
+            after_analog(i, c.analogs, c.statuses),
+            c,
+        ),
+        Rule::Status(i) => judged(
+            config_lines::status_line(line, i as u64),
+            after_status(i, c.statuses),
+            c,
+        ),
+        Rule::Frequency => judged(config_lines::frequency_line(line), Rule::RateCount, c),
+        Rule::RateCount => take_rate_count(line, c),
+        Rule::Rate(i) => take_rate(line, c, i),
+        Rule::First => take_first(line, c),
+        Rule::Trigger => take_trigger(line, c),
+        Rule::KindWord => take_kind(line, c),
+        Rule::Multiplier => judged(config_lines::multiplier_line(line), Rule::Codes, c),
+        Rule::Codes => take_codes(line, c),
+        Rule::Quality => take_quality(line, c),
+        Rule::Done => judged(
+            Fault {
+                number: 0,
+                field: 0,
+            },
+            Rule::Done,
+            c,
+        ),
+    }
+}

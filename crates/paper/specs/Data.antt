@@ -16,7 +16,7 @@ use Rattle.model.specs.declared.Kind.the-variants.{Ascii, Binary, Binary32}
 use Rattle.model.specs.declared.Layout.{Layout}
 use Rattle.model.specs.declared.Row.{Row}
 use Rattle.model.specs.Kinds.{widthOf, lowestOf, highestOf}
-use Rattle.model.specs.Rows.{trimmed}
+use Rattle.model.specs.Rows.{latestTime, trimmed}
 use Rattle.paper.specs.Fields.{CountField, WholeField}
 use Rattle.paper.specs.Lines.{Line, ended, Fields}
 
@@ -45,7 +45,7 @@ pub record TextLine (l : Layout) (n : ℕ) (r : Row) (line : List ℕ) : Type 0 
   pub fields : Fields (2 + l .analogs + l .statuses) f line
   pub number : CountField 10 n (f 1)
   pub time : CountField 13 (r .time) (f 2)
-  pub early : r .time ≤ 4294967295
+  pub early : r .time ≤ latestTime
   pub samples : (i : ℕ) → i < l .analogs → SampleField (sampleOf r i) (f (3 + i))
   pub statuses : (i : ℕ) → i < l .statuses → f (3 + l .analogs + i) ≡ (if statusOf r i then quoted "1" else quoted "0")
   pub beyond : trimmed l r ≡ r

@@ -11,6 +11,7 @@ use Rattle.model.specs.declared.Kind.{Kind}
 use Rattle.model.specs.declared.Kind.the-variants.{Ascii, Binary, Binary32}
 use Rattle.model.specs.declared.Layout.{Layout}
 use Rattle.model.specs.declared.Row.{Row}
+use Rattle.model.specs.Rows.{latestTime}
 use Rattle.paper.specs.Fields.{isBetween, SomeDigits}
 use Rattle.paper.specs.Lines.{Line, ended, Fields}
 use Rattle.paper.specs.Data.{InRange, sampleOf, TextEnding, TextFile, rowSize}
@@ -18,7 +19,7 @@ use Rattle.paper.specs.Data.{InRange, sampleOf, TextEnding, TextFile, ro
 -- WRITTEN ROWS
 -- a row that fits a layout: its timestamp has 32 bits, and each of its A samples is in the kind's range
 pub record Fitting (l : Layout) (r : Row) : Type 0 where
-  pub early : r .time ≤ 4294967295
+  pub early : r .time ≤ latestTime
   pub samples : (i : ℕ) → i < l .analogs → InRange (l .kind) (sampleOf r i)
 
 -- t is m rows of a file of a kind: m lines with CR LF, or m times the bytes of a row

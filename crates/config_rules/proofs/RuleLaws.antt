@@ -29,8 +29,8 @@ pub line-ready : (k : Rule) (c : Config) (l : List ℕ) → takeLine k c l .faul
 unfolding takeLine Ready afterRate withFirst
 line-ready Station c l e = tt
 line-ready Counts c l e = analogs-ready 0 (channelsOf (channelsLine l) .analogs) (channelsOf (channelsLine l) .statuses) _
-line-ready (Analog i) c l e = analogs-ready i (c .analogs) (c .statuses) c
-line-ready (Status i) c l e = statuses-ready i (c .statuses) c
+line-ready (Analog i) c l e = analogs-ready i (c .layout .analogs) (c .layout .statuses) c
+line-ready (Status i) c l e = statuses-ready i (c .layout .statuses) c
 line-ready Frequency c l e = tt
 line-ready RateCount c l e = tt
 line-ready (Rate i) c l e = on-test (ltb i (c .rates - 1)) (λ p. rw p tt) (λ p. rw p tt)

@@ -17,6 +17,8 @@ use Rattle.clock.specs.Dates.{validDate}
 use Rattle.clock.specs.Times.{validTime}
 use Rattle.clock.specs.Spans.{preTrigger}
 use Rattle.model.specs.declared.Kind.{Kind}
+use Rattle.model.specs.declared.Layout.{Layout}
+use Rattle.model.specs.Layouts.{inKind}
 use Rattle.config_rules.specs.declared.Moment.{Moment}
 use Rattle.config_rules.specs.declared.Config.{Config}
 use Rattle.config_rules.specs.declared.Rule.{Rule}
@@ -36,45 +38,124 @@ unfoldable pub afterRate : ℕ → ℕ → Rule
 afterRate i rates = if ltb i (rates - 1) then Rate (i + 1) else First
 
 -- A configuration in which some values are replaced
+-- the layout
+abbrev pub withLayout : Layout → Config → Config
+withLayout l c =
+    record {
+      layout = l;
+      rates = c .rates;
+      lasts = c .lasts;
+      first = c .first;
+      trigger = c .trigger;
+      pretrigger = c .pretrigger;
+      code = c .code;
+      x = c .x;
+      local = c .local;
+      quality = c .quality;
+      leap = c .leap;
+    }
+
 -- A and D
 unfoldable pub withCounts : ℕ → ℕ → Config → Config
-withCounts a d c =
-    record { analogs = a; statuses = d; rates = c .rates; lasts = c .lasts; rows = c .rows; first = c .first; trigger = c .trigger; pretrigger = c .pretrigger; kind = c .kind; code = c .code; x = c .x; local = c .local; quality = c .quality; leap = c .leap }
+withCounts a d c = withLayout (record { analogs = a; statuses = d; rows = c .layout .rows; kind = c .layout .kind }) c
 
 -- the number of rates
 unfoldable pub withRates : ℕ → Config → Config
 withRates r c =
-    record { analogs = c .analogs; statuses = c .statuses; rates = r; lasts = c .lasts; rows = c .rows; first = c .first; trigger = c .trigger; pretrigger = c .pretrigger; kind = c .kind; code = c .code; x = c .x; local = c .local; quality = c .quality; leap = c .leap }
+    record {
+      layout = c .layout;
+      rates = r;
+      lasts = c .lasts;
+      first = c .first;
+      trigger = c .trigger;
+      pretrigger = c .pretrigger;
+      code = c .code;
+      x = c .x;
+      local = c .local;
+      quality = c .quality;
+      leap = c .leap;
+    }
+
+-- last rows, and the number of rows
+abbrev pub withRows : List ℕ → ℕ → Config → Config
+withRows lasts v c =
+    record {
+      layout = record { analogs = c .layout .analogs; statuses = c .layout .statuses; rows = v; kind = c .layout .kind };
+      rates = c .rates;
+      lasts = lasts;
+      first = c .first;
+      trigger = c .trigger;
+      pretrigger = c .pretrigger;
+      code = c .code;
+      x = c .x;
+      local = c .local;
+      quality = c .quality;
+      leap = c .leap;
+    }
 
 -- rate i's last row
 unfoldable pub withLast : ℕ → ℕ → Config → Config
-withLast i v c =
-    record { analogs = c .analogs; statuses = c .statuses; rates = c .rates; lasts = set (c .lasts) i v; rows = v; first = c .first; trigger = c .trigger; pretrigger = c .pretrigger; kind = c .kind; code = c .code; x = c .x; local = c .local; quality = c .quality; leap = c .leap }
+withLast i v c = withRows (set (c .lasts) i v) v c
 
 -- the first sample
 unfoldable pub withFirst : Moment → Config → Config
 withFirst m c =
-    record { analogs = c .analogs; statuses = c .statuses; rates = c .rates; lasts = c .lasts; rows = c .rows; first = m; trigger = c .trigger; pretrigger = c .pretrigger; kind = c .kind; code = c .code; x = c .x; local = c .local; quality = c .quality; leap = c .leap }
+    record {
+      layout = c .layout;
+      rates = c .rates;
+      lasts = c .lasts;
+      first = m;
+      trigger = c .trigger;
+      pretrigger = c .pretrigger;
+      code = c .code;
+      x = c .x;
+      local = c .local;
+      quality = c .quality;
+      leap = c .leap;
+    }
 
 -- the trigger, and the time before it
 unfoldable pub withTrigger : Moment → Span → Config → Config
 withTrigger m p c =
-    record { analogs = c .analogs; statuses = c .statuses; rates = c .rates; lasts = c .lasts; rows = c .rows; first = c .first; trigger = m; pretrigger = p; kind = c .kind; code = c .code; x = c .x; local = c .local; quality = c .quality; leap = c .leap }
+    record { layout = c .layout; rates = c .rates; lasts = c .lasts; first = c .first; trigger = m; pretrigger = p; code = c .code; x = c .x; local = c .local; quality = c .quality; leap = c .leap }
 
 -- the kind
 unfoldable pub withKind : Kind → Config → Config
-withKind k c =
-    record { analogs = c .analogs; statuses = c .statuses; rates = c .rates; lasts = c .lasts; rows = c .rows; first = c .first; trigger = c .trigger; pretrigger = c .pretrigger; kind = k; code = c .code; x = c .x; local = c .local; quality = c .quality; leap = c .leap }
+withKind k c = withLayout (inKind k (c .layout)) c
 
 -- the time codes
 unfoldable pub withCodes : ℤ → Bool → ℤ → Config → Config
 withCodes t x m c =
-    record { analogs = c .analogs; statuses = c .statuses; rates = c .rates; lasts = c .lasts; rows = c .rows; first = c .first; trigger = c .trigger; pretrigger = c .pretrigger; kind = c .kind; code = t; x = x; local = m; quality = c .quality; leap = c .leap }
+    record {
+      layout = c .layout;
+      rates = c .rates;
+      lasts = c .lasts;
+      first = c .first;
+      trigger = c .trigger;
+      pretrigger = c .pretrigger;
+      code = t;
+      x = x;
+      local = m;
+      quality = c .quality;
+      leap = c .leap;
+    }
 
 -- quality and leap code
 unfoldable pub withQuality : ℕ → ℕ → Config → Config
 withQuality q p c =
-    record { analogs = c .analogs; statuses = c .statuses; rates = c .rates; lasts = c .lasts; rows = c .rows; first = c .first; trigger = c .trigger; pretrigger = c .pretrigger; kind = c .kind; code = c .code; x = c .x; local = c .local; quality = q; leap = p }
+    record {
+      layout = c .layout;
+      rates = c .rates;
+      lasts = c .lasts;
+      first = c .first;
+      trigger = c .trigger;
+      pretrigger = c .pretrigger;
+      code = c .code;
+      x = c .x;
+      local = c .local;
+      quality = q;
+      leap = p;
+    }
 
 -- trigger minus first sample, where there is a trigger
 unfoldable pub spanTo : Moment → Dated → Span
@@ -94,11 +175,11 @@ takeLine Station c l = taken (faultOf (firstLine l)) Counts c
 takeLine Counts c l =
     let k = channelsOf (channelsLine l) in
     taken (k .fault) (afterAnalog 0 (k .analogs) (k .statuses)) (withCounts (k .analogs) (k .statuses) c)
-takeLine (Analog i) c l = taken (faultOf (analogLine i l)) (afterAnalog i (c .analogs) (c .statuses)) c
-takeLine (Status i) c l = taken (faultOf (statusLine i l)) (afterStatus i (c .statuses)) c
+takeLine (Analog i) c l = taken (faultOf (analogLine i l)) (afterAnalog i (c .layout .analogs) (c .layout .statuses)) c
+takeLine (Status i) c l = taken (faultOf (statusLine i l)) (afterStatus i (c .layout .statuses)) c
 takeLine Frequency c l = taken (faultOf (frequencyLine l)) RateCount c
 takeLine RateCount c l = let k = countedOf (ratesLine l) in taken (k .fault) (Rate 0) (withRates (k .value) c)
-takeLine (Rate i) c l = let k = countedOf (rateLine (eqb (c .rates) 0) (c .rows) l) in taken (k .fault) (afterRate i (c .rates)) (withLast i (k .value) c)
+takeLine (Rate i) c l = let k = countedOf (rateLine (eqb (c .rates) 0) (c .layout .rows) l) in taken (k .fault) (afterRate i (c .rates)) (withLast i (k .value) c)
 takeLine First c l = let k = datedOf (dateLine l) in taken (k .fault) Trigger (withFirst (moment k) c)
 takeLine Trigger c l = let k = datedOf (dateLine l) in taken (k .fault) KindWord (withTrigger (moment k) (spanTo (c .first) k) c)
 takeLine KindWord c l = let k = kindedOf (kindLine l) in taken (k .fault) Multiplier (withKind (k .kind) c)

@@ -15,15 +15,12 @@ noMoment = record { date = noDate; time = noTime }
 unfoldable pub noConfig : Config
 noConfig =
     record {
-      analogs = 0;
-      statuses = 0;
+      layout = record { analogs = 0; statuses = 0; rows = 0; kind = Ascii };
       rates = 0;
       lasts = replicate 8 0;
-      rows = 0;
       first = noMoment;
       trigger = noMoment;
       pretrigger = record { seconds = pos 0; nanoseconds = 0 };
-      kind = Ascii;
       code = pos 0;
       x = false;
       local = pos 0;

@@ -6,6 +6,7 @@ use clock::Time;
 use config_lines::Dated;
 use config_lines::Fault;
 use model::Kind;
+use model::Layout;
 ghost use mathlib.Core.Path.{_≡_};
 ghost use mathlib.Core.Bool.{true};
 ghost use Rattle.config_rules.specs.Inner.{afterAnalog, afterStatus, afterRate, withLast, withKind, takeLine, spanTo, Fine, Ready};
@@ -20,15 +21,12 @@ pub struct Moment {
 
 // What an accepted configuration shows.
 pub struct Config {
-    pub analogs: u32,
-    pub statuses: u32,
+    pub layout: Layout,
     pub rates: u32,
     pub lasts: [u32; 8],
-    pub rows: u32,
     pub first: Moment,
     pub trigger: Moment,
     pub pretrigger: Span,
-    pub kind: Kind,
     pub code: i64,
     pub x: bool,
     pub local: i64,
@@ -98,7 +96,7 @@ fn with_last(c: Config, i: u32, last: u32) -> Config
     ensures { λ r. ⌜ r ≡ withLast i last c ⌝ }
 {
     let mut e = c;
-    e.rows = last;
+    e.layout.rows = last;
     let j = i as usize;
     if j < 8 {
         e.lasts[j] = last;
@@ -110,26 +108,10 @@ fn with_last(c: Config, i: u32, last: u32) -> Config
 fn with_kind(c: Config, kind: Kind) -> Config
     ensures { λ r. ⌜ r ≡ withKind kind c ⌝ }
 {
-    let lasts = c.lasts;
-    let first = c.first;
-    let trigger = c.trigger;
-    let span = c.pretrigger;
-    Config {
-        analogs: c.analogs,
-        statuses: c.statuses,
-        rates: c.rates,
-        lasts: lasts,
-        rows: c.rows,
-        first: first,
-        trigger: trigger,
-        pretrigger: span,
-        kind: kind,
-        code: c.code,
-        x: c.x,
-        local: c.local,
-        quality: c.quality,
-        leap: c.leap,
-    }
+    let layout = c.layout;
+    let mut e = c;
+    e.layout = layout.in_kind(kind);
+    e
 }
 
 // The three together.
@@ -149,10 +131,12 @@ fn take_counts(line: &[u8], c: Config) -> Taken
 {
     let k = config_lines::channels_line(line);
     let fault = k.fault;
+    let a = k.analogs as u32;
+    let d = k.statuses as u32;
     let mut e = c;
-    e.analogs = k.analogs as u32;
-    e.statuses = k.statuses as u32;
-    judged(fault, after_analog(0, e.analogs, e.statuses), e)
+    e.layout.analogs = a;
+    e.layout.statuses = d;
+    judged(fault, after_analog(0, a, d), e)
 }
 
 // The number of rates.
@@ -170,7 +154,7 @@ fn take_rate_count(line: &[u8], c: Config) -> Taken
 fn take_rate(line: &[u8], c: Config, i: u32) -> Taken
     ensures { λ r. ⌜ r ≡ takeLine (Rule.Rate i) c (now (line .entry)) ⌝ }
 {
-    let k = config_lines::rate_line(line, c.rates == 0, c.rows as u64);
+    let k = config_lines::rate_line(line, c.rates == 0, c.layout.rows as u64);
     let fault = k.fault;
     judged(
         fault,
@@ -282,12 +266,12 @@ pub fn take_line(line: &[u8], rule: Rule, c: Config) -> Taken
         Rule::Counts => take_counts(line, c),
         Rule::Analog(i) => judged(
             config_lines::analog_line(line, i as u64),
-            after_analog(i, c.analogs, c.statuses),
+            after_analog(i, c.layout.analogs, c.layout.statuses),
             c,
         ),
         Rule::Status(i) => judged(
             config_lines::status_line(line, i as u64),
-            after_status(i, c.statuses),
+            after_status(i, c.layout.statuses),
             c,
         ),
         Rule::Frequency => judged(config_lines::frequency_line(line), Rule::RateCount, c),

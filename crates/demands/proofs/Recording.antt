@@ -49,15 +49,12 @@ recording = recordingWith "03/02/2024" "0,0"
 abbrev pub recordingShows : Config
 recordingShows =
     record {
-      analogs = 1;
-      statuses = 1;
+      layout = record { analogs = 1; statuses = 1; rows = 2; kind = Ascii };
       rates = 1;
       lasts = 2 ∷ replicate 7 0;
-      rows = 2;
       first = record { date = record { day = 3; month = 2; year = 2024 }; time = record { hour = 9; minute = 15; second = 0; nanosecond = 0 } };
       trigger = record { date = record { day = 3; month = 2; year = 2024 }; time = record { hour = 9; minute = 15; second = 0; nanosecond = 1_000_000 } };
       pretrigger = record { seconds = pos 0; nanoseconds = 1_000_000 };
-      kind = Ascii;
       code = pos 0;
       x = false;
       local = pos 0;

@@ -38,7 +38,7 @@ use Rattle.config_rules.specs.declared.Moment.{Moment}
 use Rattle.config_rules.specs.declared.Config.{Config}
 use Rattle.config.specs.declared.ConfigAnswer.{ConfigAnswer}
 use Rattle.config.specs.Reading.{Place, saidOf}
-use Rattle.config.specs.Config.{configAnswer, lastOf, configuration, noConfig, readConfig, layoutOf}
+use Rattle.config.specs.Config.{configAnswer, lastOf, configuration, noConfig, readConfig}
 use Rattle.config.proofs.SizedLaws.{accepted-sized}
 use Rattle.paper.specs.Lines.{ended, StationLine, ChannelsLine, AnalogLine, StatusLine, FrequencyLine, RatesLine, DateLine, KindLine, MultiplierLine, CodesLine, QualityLine}
 use Rattle.paper.specs.Configuration.{PreTrigger, Configuration}
@@ -74,17 +74,14 @@ pub quality-some : (q p : ℕ) (l : List ℕ) → QualityLine q p l → 1 ≤ le
 quality-some q p l w = let e = ap length (w .fields .joined) in omega (arith, simp length-append at e)
 
 -- what is shown
-shown-is : (c : Config) (lasts : List ℕ) (rows : ℕ) (p : Span) → c .lasts ≡ lasts → c .rows ≡ rows → c .pretrigger ≡ p
+shown-is : (c : Config) (lasts : List ℕ) (rows : ℕ) (p : Span) → c .lasts ≡ lasts → c .layout .rows ≡ rows → c .pretrigger ≡ p
     → record {
-      analogs = c .analogs;
-      statuses = c .statuses;
+      layout = record { analogs = c .layout .analogs; statuses = c .layout .statuses; rows = rows; kind = c .layout .kind };
       rates = c .rates;
       lasts = lasts;
-      rows = rows;
       first = c .first;
       trigger = c .trigger;
       pretrigger = p;
-      kind = c .kind;
       code = c .code;
       x = c .x;
       local = c .local;
@@ -110,15 +107,12 @@ moment v = record { date = v .0; time = v .1 }
 abbrev shownBy : ℕ × ℕ → ℕ → List ℕ → Date × Time → Date × Time → Kind → ℤ × Bool × ℤ → ℕ × ℕ → Config
 shownBy counts rates lasts first trigger kind codes quality =
     record {
-      analogs = counts .0;
-      statuses = counts .1;
+      layout = record { analogs = counts .0; statuses = counts .1; rows = lastOf 0 lasts; kind = kind };
       rates = rates;
       lasts = lasts ++ replicate (8 - length lasts) 0;
-      rows = lastOf 0 lasts;
       first = moment first;
       trigger = moment trigger;
       pretrigger = preTrigger (first .0) (first .1) (trigger .0) (trigger .1);
-      kind = kind;
       code = codes .0;
       x = codes .1;
       local = codes .2;
@@ -212,7 +206,7 @@ config-reads s c =
           let some : 1 ≤ length (w .lasts) = omega arith in
           let shown = shown-is c (w .lasts ++ replicate (8 - length (w .lasts)) 0) (lastOf 0 (w .lasts)) (preTrigger (c .first .date) (c .first .time) (c .trigger .date) (c .trigger .time))
           (w .lastsShown)
-          (sym (last-is (w .lasts) (c .rows) some .1 (w .rows)))
+          (sym (last-is (w .lasts) (c .layout .rows) some .1 (w .rows)))
           (sym (pre-is (c .first) (c .trigger) (w .l7) (w .m7) (c .pretrigger) (w .first .is) (w .trigger .is) .1 (w .pretrigger)))
           in
           let (k, e) = reads .exactly 1 s c [] .1 (
@@ -224,7 +218,7 @@ config-reads s c =
               s1,
               (w .l1, w .whole, w .station),
               (
-                (c .analogs, c .statuses),
+                (c .layout .analogs, c .layout .statuses),
                 s2,
                 (w .l2, refl, w .channels),
                 (
@@ -256,7 +250,7 @@ config-reads s c =
                               s9,
                               (w .m7, refl, w .trigger),
                               (
-                                c .kind,
+                                c .layout .kind,
                                 s10,
                                 (w .l8, refl, w .kind),
                                 (
@@ -321,8 +315,8 @@ config-refused s =
 pub one-config : (s : List ℕ) (c d : Config) → Configuration s c → Configuration s d → c ≡ d
 one-config s c d h g = ap (λ (a : ConfigAnswer). a .config) (sym (config-exactly s c .1 h) ∙ config-exactly s d .1 g)
 
-pub sized-config : (s : List ℕ) (c : Config) → Configuration s c → Sized (layoutOf c)
+pub sized-config : (s : List ℕ) (c : Config) → Configuration s c → Sized (c .layout)
 sized-config s c h =
     let e = config-exactly s c .1 h in
     let q : readConfig s .config ≡ c = ap (λ (a : ConfigAnswer). a .config) e in
-    sized (layoutOf c) (ap (λ (d : Config). isSized (layoutOf d)) (sym q) ∙ accepted-sized s (ap (λ (a : ConfigAnswer). a .answer) e))
+    sized (c .layout) (ap (λ (d : Config). isSized (d .layout)) (sym q) ∙ accepted-sized s (ap (λ (a : ConfigAnswer). a .answer) e))

@@ -19,7 +19,7 @@ use Rattle.model.specs.declared.Answer.{Answer}
 use Rattle.model.specs.declared.Answer.the-variants.{Yes, No}
 use Rattle.model.specs.Rows.{sampleAt, sampleValue, statusAt, statusValue}
 use Rattle.data.specs.Files.{checkFile, rowAt}
-use Rattle.config.specs.Config.{readConfig, layoutOf}
+use Rattle.config.specs.Config.{readConfig}
 
 -- `text` was put after the first n bytes of `old`: so `new` begins, up to r; what follows stays
 pub record Put (old : List ℕ) (n : ℕ) (text new : List ℕ) (r : ℕ) : Type 0 where
@@ -105,7 +105,7 @@ recording l dat = listed (do
 unfoldable pub listing : List ℕ → List ℕ → List ℕ
 listing cfg dat = listed (do
   accepted (quoted "no cfg ") (readConfig cfg .answer)
-  says (recording (layoutOf (readConfig cfg .config)) dat))
+  says (recording (readConfig cfg .config .layout) dat))
 
 -- what the room holds at the end: the listing, and then what stood there
 unfoldable pub listedTo : List ℕ → List ℕ → List ℕ → List ℕ

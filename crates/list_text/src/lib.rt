@@ -1,6 +1,5 @@
 // The listing of a recording: the text that says what a configuration and a data file hold, or why one of them is refused.
 // put_listing answers for any two files, and puts exactly the text that the definition `listing` gives in front of its room; what stands past it stays. The data file is checked once, and each row is read from its place.
-use config_rules::Config;
 use model::AnalogNo;
 use model::Answer;
 use model::Kind;
@@ -20,7 +19,6 @@ ghost use Rattle.model.specs.Layouts.{Sized};
 ghost use Rattle.model.specs.Rows.{sampleAt, sampleValue, statusAt, statusValue};
 ghost use Rattle.data.specs.Files.{fileFine};
 ghost use Rattle.rows.specs.Walks.{rowHere, HasRow};
-ghost use Rattle.config.specs.Config.{layoutOf};
 ghost use Rattle.list_text.specs.Listing.{Put, kindWord, named, headLine, samplesText, statusText, statusesText, rowLine, lineMost, rowsText, refusalLine, recording, listing, listedTo};
 
 // Room for the text of any two files.
@@ -239,28 +237,15 @@ fn put_data(out: &mut [u8], layout: Layout, dat: &[u8]) -> usize
     }
 }
 
-// The layout that a configuration gives.
-fn layout_of(config: Config) -> Layout
-    ensures { λ r. ⌜ r ≡ layoutOf config ⌝ }
-{
-    let kind = config.kind;
-    Layout {
-        analogs: config.analogs,
-        statuses: config.statuses,
-        rows: config.rows,
-        kind: kind,
-    }
-}
-
 // The listing of a recording is put, and how many bytes it has is told.
 pub fn put_listing(cfg: &[u8], dat: &[u8], out: &mut [u8; ROOM]) -> usize
     ensures { λ r. ⌜ (r ≡ length (listing (now (cfg .entry)) (now (dat .entry)))) × (now (out .exit) ≡ listedTo (now (cfg .entry)) (now (dat .entry)) (now (out .entry))) × (r ≤ length (now (out .exit))) ⌝ }
 {
     let found = config::read_config(cfg);
     let answer = found.answer;
-    let config = found.config;
+    let layout = found.config.layout;
     match answer {
-        Answer::Yes => put_data(out, layout_of(config), dat),
+        Answer::Yes => put_data(out, layout, dat),
         Answer::No(refusal) => put_refusal(out, b"no cfg ", refusal),
     }
 }

@@ -55,13 +55,13 @@ pub record Configuration (s : List ℕ) (c : Config) : Type 0 where
   pub station : Line StationLine l1
   -- 2: TT, A, D
   pub l2 : List ℕ
-  pub channels : Line (ChannelsLine (c .analogs) (c .statuses)) l2
+  pub channels : Line (ChannelsLine (c .layout .analogs) (c .layout .statuses)) l2
   -- 3: A analog lines, from index 1
   pub t3 : List ℕ
-  pub analogs : Lines AnalogLine 1 (c .analogs) t3
+  pub analogs : Lines AnalogLine 1 (c .layout .analogs) t3
   -- 4: D status lines, from index 1
   pub t4 : List ℕ
-  pub statuses : Lines StatusLine 1 (c .statuses) t4
+  pub statuses : Lines StatusLine 1 (c .layout .statuses) t4
   -- 5: line frequency
   pub l5 : List ℕ
   pub frequency : Line FrequencyLine l5
@@ -73,7 +73,7 @@ pub record Configuration (s : List ℕ) (c : Config) : Type 0 where
   pub rateLines : RateLines (rateSign (c .rates)) 0 lasts t6
   pub rateCount : length lasts ≡ max 1 (c .rates)
   pub lastsShown : c .lasts ≡ lasts ++ replicate (8 - length lasts) 0
-  pub rows : (others : List ℕ) × (lasts ≡ others ++ c .rows ∷ [])
+  pub rows : (others : List ℕ) × (lasts ≡ others ++ c .layout .rows ∷ [])
   -- 7: first sample, trigger, and the time between them
   pub l7 : List ℕ
   pub first : Line (DateLine (c .first)) l7
@@ -82,7 +82,7 @@ pub record Configuration (s : List ℕ) (c : Config) : Type 0 where
   pub pretrigger : PreTrigger (c .first) (c .trigger) (c .pretrigger)
   -- 8: kind
   pub l8 : List ℕ
-  pub kind : Line (KindLine (c .kind)) l8
+  pub kind : Line (KindLine (c .layout .kind)) l8
   -- 9: time multiplier
   pub l9 : List ℕ
   pub multiplier : Line MultiplierLine l9

@@ -11,7 +11,7 @@ use Rattle.places.specs.Rows.{statusPlace}
 
 -- channels, rates and rows
 abbrev pub countPlaces : Config → List ℤ
-countPlaces c = pos (c .analogs) ∷ pos (c .statuses) ∷ pos (c .rates) ∷ pos (c .rows) ∷ []
+countPlaces c = pos (c .layout .analogs) ∷ pos (c .layout .statuses) ∷ pos (c .rates) ∷ pos (c .layout .rows) ∷ []
 
 -- the last rows, 0 where there is none
 abbrev pub lastPlaces : List ℕ → List ℤ
@@ -34,7 +34,7 @@ abbrev pub otherPlaces : Config → List ℤ
 otherPlaces c =
     c .pretrigger .seconds
     ∷ pos (c .pretrigger .nanoseconds)
-    ∷ pos (numberOf (c .kind))
+    ∷ pos (numberOf (c .layout .kind))
     ∷ c .code
     ∷ statusPlace (c .x)
     ∷ c .local

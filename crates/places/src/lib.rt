@@ -185,10 +185,10 @@ fn count_places(config: Config) -> [i64; 4]
     ensures { λ r. ⌜ r ≡ countPlaces config ⌝ }
 {
     [
-        number(config.analogs),
-        number(config.statuses),
+        number(config.layout.analogs),
+        number(config.layout.statuses),
         number(config.rates),
-        number(config.rows),
+        number(config.layout.rows),
     ]
 }
 
@@ -211,7 +211,8 @@ fn moment_places(moment: Moment) -> [i64; 7]
 fn other_places(config: Config) -> [i64; 8]
     ensures { λ r. ⌜ r ≡ otherPlaces config ⌝ }
 {
-    let kind = config.kind;
+    let layout = config.layout;
+    let kind = layout.kind;
     [
         config.pretrigger.seconds,
         number(config.pretrigger.nanoseconds),

@@ -27,11 +27,12 @@ fn put_case(s: &[u8], out: &mut [u8], line: usize, text: &[u8]) -> usize {
 
 // What an accepted configuration shows, in part.
 fn print_config(c: Config) {
-    let kind = c.kind;
-    cases::print_number(b"yes, A ", c.analogs);
-    cases::print_number(b" D ", c.statuses);
+    let layout = c.layout;
+    let kind = layout.kind;
+    cases::print_number(b"yes, A ", layout.analogs);
+    cases::print_number(b" D ", layout.statuses);
     cases::print_number(b" rates ", c.rates);
-    cases::print_number(b" rows ", c.rows);
+    cases::print_number(b" rows ", layout.rows);
     cases::print_number(b" kind ", kind.number());
     cases::print_number(b" quality ", c.quality);
     cases::print_number(b" leap ", c.leap);

@@ -9,11 +9,11 @@ use Rattle.config_rules.proofs.take_counts.Tie as tie
 channels-line-requires : tie.Need-channels-line-requires
 channels-line-requires c κs = search needs
 
-cast-e : tie.Need-cast-e
-cast-e c = omega (arith, rw (← c .before .before .channels-line .ensures) at (channels-le (c .before .before .before .before .args .line .now) .0))
+cast-a : tie.Need-cast-a
+cast-a c = omega (arith, rw (← c .before .before .channels-line .ensures) at (channels-le (c .before .before .before .before .args .line .now) .0))
 
-cast-e-2 : tie.Need-cast-e-2
-cast-e-2 c = omega (arith, rw (← c .before .before .before .channels-line .ensures) at (channels-le (c .before .before .before .before .before .args .line .now) .1))
+cast-d : tie.Need-cast-d
+cast-d c = omega (arith, rw (← c .before .before .before .channels-line .ensures) at (channels-le (c .before .before .before .before .before .args .line .now) .1))
 
 after-analog-requires : tie.Need-after-analog-requires
 after-analog-requires c κs = search needs
@@ -23,9 +23,9 @@ judged-requires c κs = search needs
 
 returns : tie.Need-returns
 unfolding takeLine withCounts
-returns c = rw (c .judged .ensures, c .before .after-analog .ensures, c .before .before .before .before .before .channels-line .ensures)
+returns c = rw (c .judged .ensures, c .before .after-analog .ensures, c .before .before .before .before .before .before .before .channels-line .ensures)
 
 pub take-counts-spec : {M : Type 1} → statement M
 take-counts-spec =
     tie.close
-    (tie.spec channels-line-requires cast-e cast-e-2 after-analog-requires judged-requires returns)
+    (tie.spec channels-line-requires cast-a cast-d after-analog-requires judged-requires returns)

@@ -17,7 +17,10 @@ after-rate-requires : tie.Need-after-rate-requires
 after-rate-requires c κs = search needs
 
 cast-with-last : tie.Need-cast-with-last
-cast-with-last c = omega (arith, rw (← c .before .before .before .rate-line .ensures) at (rate-le (eqb (c .before .before .before .before .before .before .before .args .c .rates) 0) (c .before .before .before .before .before .before .before .args .c .rows) (c .before .before .before .before .before .before .before .args .line .now)))
+cast-with-last c =
+    let s = c .before .before .before in
+    let a = s .before .before .before .before .args in
+    omega (arith, rw (← s .rate-line .ensures) at (rate-le (eqb (a .c .rates) 0) (a .c .layout .rows) (a .line .now)))
 
 with-last-requires : tie.Need-with-last-requires
 with-last-requires c κs = search needs

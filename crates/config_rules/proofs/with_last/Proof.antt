@@ -21,8 +21,8 @@ returns c = refl
 returns-2 : tie.Need-returns-2
 unfolding withLast
 returns-2 c =
-    let wide : length (c .before .args .c .lasts) ≡ 8 = search needs in
-    rw (set-past (c .before .args .c .lasts) (c .before .args .i) (c .before .args .last) (omega arith))
+    let wide : length (c .before .before .args .c .lasts) ≡ 8 = search needs in
+    rw (set-past (c .before .before .args .c .lasts) (c .before .before .args .i) (c .before .before .args .last) (omega arith))
 
 pub with-last-spec : {M : Type 1} → statement M
 with-last-spec = tie.close (tie.spec mul-e element-write-e returns returns-2)

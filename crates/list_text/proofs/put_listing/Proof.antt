@@ -4,7 +4,7 @@ use borrow.Author.Needs.{needs}
 use Rattle.model.specs.declared.Answer.the-variants.{Yes, No}
 use Rattle.model.proofs.LayoutLaws.{sized}
 use Rattle.config.specs.declared.ConfigAnswer.{ConfigAnswer}
-use Rattle.config.specs.Config.{readConfig, layoutOf}
+use Rattle.config.specs.Config.{readConfig}
 use Rattle.config.proofs.SizedLaws.{accepted-sized}
 use Rattle.list_text.specs.Listing.{listing, listedTo}
 use Rattle.list_text.proofs.Laws.{put-all-of}
@@ -17,20 +17,19 @@ read-config-requires c κs = search needs
 enum-told : tie.Need-enum-told
 enum-told c = search needs
 
-layout-of-requires : tie.Need-layout-of-requires
-layout-of-requires c κs = search needs
-
 -- the layout of a configuration that is accepted
-given : (c : tie.After-layout-of) → (c .layout-of .result ≡ layoutOf (readConfig (c .before .before .before .before .before .before .before .before .args .cfg .now) .config)) × (readConfig (c .before .before .before .before .before .before .before .before .args .cfg .now) .answer ≡ Yes)
+given : (c : tie.After-put-data-arg)
+    → let r = c .before .before .before .before in let s = r .before .before .before .args .cfg .now in
+    (r .read-config .result .config .layout ≡ readConfig s .config .layout) × (readConfig s .answer ≡ Yes)
 given c =
-    let e = c .before .before .before .before .before .read-config .ensures in
-    (c .layout-of .ensures ∙ ap (λ (a : ConfigAnswer). layoutOf (a .config)) e, ap (λ (a : ConfigAnswer). a .answer) (sym e) ∙ c .before .before .enum-told .given .1)
+    let e = c .before .before .before .before .read-config .ensures in
+    (ap (λ (a : ConfigAnswer). a .config .layout) e, ap (λ (a : ConfigAnswer). a .answer) (sym e) ∙ c .before .enum-told .given .1)
 
 put-data-requires : tie.Need-put-data-requires
 put-data-requires c κs =
-    let s = c .before .before .before .before .before .before .before .before .args .cfg .now in
+    let s = c .before .before .before .before .before .before .before .args .cfg .now in
     let g = given c in
-    (rw (g .0) (sized (layoutOf (readConfig s .config)) (accepted-sized s (g .1))), search needs)
+    (rw (g .0) (sized (readConfig s .config .layout) (accepted-sized s (g .1))), search needs)
 
 enum-known-answer : tie.Need-enum-known-answer
 enum-known-answer c = search needs
@@ -50,7 +49,9 @@ returns c =
 returns-2 : tie.Need-returns-2
 unfolding listing listedTo
 returns-2 c =
-    let e : readConfig (c .before .before .before .before .before .before .before .before .before .before .args .cfg .now) .answer ≡ No (c .before .before .before .before .answer .given .0 .0) = ap (λ (a : ConfigAnswer). a .answer) (sym (c .before .before .before .before .before .before .before .read-config .ensures)) ∙ c .before .before .before .before .answer .given .1 in
+    let a = c .before .before .before .before in
+    let r = a .before .before .before in
+    let e : readConfig (r .before .before .before .args .cfg .now) .answer ≡ No (a .answer .given .0 .0) = ap (λ (a : ConfigAnswer). a .answer) (sym (r .read-config .ensures)) ∙ a .answer .given .1 in
     rw e (put-all-of (c .put-refusal .ensures))
 
 pub put-listing-spec : {M : Type 1} → statement M
@@ -59,7 +60,6 @@ put-listing-spec =
     (tie.spec
     read-config-requires
     enum-told
-    layout-of-requires
     put-data-requires
     enum-known-answer
     slice-aggregate-put-refusal

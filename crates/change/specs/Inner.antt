@@ -4,7 +4,6 @@ use mathlib.Core.Bool.{Bool, true, false, not}
 use mathlib.Core.List.{List}
 use Prim.Native.Nat.{ℕ, zero, suc, _+_, _*_, _≤_}
 use lib.Dec.{eqb}
-use lib.IntN.{ℤ}
 use lib.ListN.{length}
 use Rattle.ground.specs.Choice.{if_then_else_}
 use Rattle.ground.specs.Said.{Said, says, refuses, _>>_, must}
@@ -17,9 +16,9 @@ use Rattle.model.specs.Layouts.{inKind}
 use Rattle.model.specs.Refusals.{refused}
 use Rattle.binary_row.specs.Rows.{rowSize}
 use Rattle.recode.specs.Inner.{fitFrom}
-use Rattle.ascii_plain.specs.Rows.{lengthBy}
-use Rattle.data.specs.Files.{byKind, fileFine, rowAt, bytesOf, misfitOf, endMark}
-use Rattle.data.specs.Inner.{lengthOf}
+use Rattle.row_bytes.specs.Rows.{byKind, bytesOf}
+use Rattle.row_bytes.specs.Inner.{lengthOf}
+use Rattle.data.specs.Files.{fileFine, rowAt, misfitOf, endMark}
 use Rattle.change.specs.declared.Tally.{Tally}
 use Rattle.change.specs.declared.Weighed.{Weighed}
 use Rattle.change.specs.declared.Weighed.the-variants as weighed
@@ -33,10 +32,6 @@ rowsLength l r (suc m) = rowsLength l r m + lengthOf l (m + 1) (r m)
 -- how many bytes the file takes whose rows are r 0, r 1, .. , its end mark counted
 unfoldable pub fileLength : Layout → (ℕ → Row) → ℕ
 fileLength l r = rowsLength l r (l .rows) + length (endMark l)
-
--- how many bytes row n takes with this timestamp and these samples
-unfoldable pub newLength : Layout → ℕ → ℕ → List ℤ → ℕ
-newLength l n time zs = byKind (l .kind) (lengthBy l n time zs) (rowSize l)
 
 -- nothing looked at
 abbrev pub noTally : Tally

@@ -1,29 +1,27 @@
 -- Laws of data files of every kind: what is written is accepted and shown, and what is accepted can be written.
---     by-kind                        text or one of the binary kinds
---     bytes-text, bytes-binary, file-text, file-binary     a row and a file that are written, by the kind
---     length-bytes                   a row takes as many bytes as it is told to
+--     file-text, file-binary         a file that is written, by the kind
 --     Writes, fits-text              a row that can be written: its time and its samples fit, for text the bounds of text
 --     fine-back, row-back            a file of written rows is fine, and has each row as it was written, with its places past A and D zero
 --     row-writes, row-trimmed        a row of an accepted file can be written, and has its places past A and D zero
 --     file-back                      an accepted file of a binary kind is the file of its rows
 -- Assumes nothing.
-use mathlib.Core.Path.{_≡_, refl, sym, ap, _∙_}
+use mathlib.Core.Path.{_≡_, sym, ap, _∙_}
 use mathlib.Core.Bool.{true}
 use mathlib.Core.List.{List, [], append-nil}
 use Prim.Native.Nat.{ℕ, _+_, _*_, _^_, _<_}
 use native.Mathlib.Omega.{arith}
 use lib.IntN.{pos}
-use lib.ListN.{length, getD}
+use lib.ListN.{getD}
 use Rattle.ground.specs.Said.{says}
 use Rattle.ground.specs.Tables.{every}
 use Rattle.ground.proofs.Tables.{cat-ext}
 use Rattle.words.specs.Words.{isByte}
 use Rattle.words.proofs.WordLaws.{bytes-part, wordOf-part-lt}
 use Rattle.model.specs.declared.Kind.{Kind}
-use Rattle.model.specs.declared.Kind.the-variants.{Ascii, Binary, Binary32}
+use Rattle.model.specs.declared.Kind.the-variants.{Ascii}
 use Rattle.model.specs.declared.Layout.{Layout}
 use Rattle.model.specs.declared.Row.{Row}
-use Rattle.model.specs.Kinds.{fitsKind, numberOf}
+use Rattle.model.specs.Kinds.{fitsKind}
 use Rattle.model.specs.Layouts.{isSized}
 use Rattle.model.specs.Rows.{trimmed}
 use Rattle.model.proofs.FitLaws.{misfit-all, all-misfit}
@@ -32,19 +30,14 @@ use Rattle.binary_row.specs.Rows as binary
 use Rattle.binary_row.proofs.RowLaws as laws
 use Rattle.binary_file.specs.Files.{rowBytes, checkBinary, binaryRow, binaryFile}
 use Rattle.binary_file.proofs.FileLaws.{binary-accepted, binary-reads-back, binary-back}
-use Rattle.ascii_plain.specs.Rows.{textOf, textLength}
-use Rattle.ascii_plain.proofs.LengthLaws.{length-text}
+use Rattle.ascii_plain.specs.Rows.{textOf}
 use Rattle.ascii_file.specs.Files.{checkText, textRow, mark, textFile}
 use Rattle.ascii_file.proofs.RoundLaws.{Fits}
 use Rattle.ascii_file.proofs.FileLaws as ascii_file
-use Rattle.data.specs.Files.{fileFine, rowAt, bytesOf, misfitOf, endMark, fileOf}
-use Rattle.data.specs.Inner.{lengthOf}
-use Rattle.data.proofs.Laws.{text-kind, binary-kind}
-
-pub by-kind : {C : Type 0} (k : Kind) → (k ≡ Ascii → C) → ((k ≡ Ascii → ⊥) → C) → C
-by-kind Ascii f g = f refl
-by-kind Binary f g = g (λ e. let q : 1 ≡ 0 = ap numberOf e in absurd (omega arith))
-by-kind Binary32 f g = g (λ e. let q : 2 ≡ 0 = ap numberOf e in absurd (omega arith))
+use Rattle.row_bytes.specs.Rows.{bytesOf}
+use Rattle.row_bytes.proofs.KindLaws.{text-kind, binary-kind, by-kind}
+use Rattle.row_bytes.proofs.RowLaws.{bytes-text, bytes-binary}
+use Rattle.data.specs.Files.{fileFine, rowAt, misfitOf, endMark, fileOf}
 
 -- a row that can be written
 pub record Writes (l : Layout) (r : Row) : Type 0 where
@@ -52,16 +45,12 @@ pub record Writes (l : Layout) (r : Row) : Type 0 where
   pub all : misfitOf l r ≡ l .analogs
 
 module _ (l : Layout) (text : l .kind ≡ Ascii) where
-  pub bytes-text : (n : ℕ) (r : Row) → bytesOf l n r ≡ textOf l n r
-  unfolding bytesOf
-  bytes-text n r = text-kind (l .kind) (textOf l n r) (binary.bytesOf l n r) text
-
   pub file-text : (r : ℕ → Row) → fileOf l r ≡ textFile l r
   unfolding fileOf endMark
   file-text r =
       rw (
         text-kind (l .kind) mark [] text,
-        cat-ext (λ i. bytesOf l (i + 1) (r i)) (λ i. textOf l (i + 1) (r i)) (l .rows) (λ i h. bytes-text (i + 1) (r i)),
+        cat-ext (λ i. bytesOf l (i + 1) (r i)) (λ i. textOf l (i + 1) (r i)) (l .rows) (λ i h. bytes-text l text (i + 1) (r i)),
       )
 
   pub fits-text : (r : Row) → Writes l r → Fits l r
@@ -73,25 +62,14 @@ module _ (l : Layout) (text : l .kind ≡ Ascii) where
   text-writes r f = record { time = f .time; all = all-misfit (l .kind) (r .samples) (l .analogs) (λ i h. ap (λ (k : Kind). fitsKind k (getD (r .samples) i (pos 0))) text ∙ f .samples i h) }
 
 module _ (l : Layout) (other : l .kind ≡ Ascii → ⊥) where
-  pub bytes-binary : (n : ℕ) (r : Row) → bytesOf l n r ≡ binary.bytesOf l n r
-  unfolding bytesOf
-  bytes-binary n r = binary-kind (l .kind) (textOf l n r) (binary.bytesOf l n r) other
-
   pub file-binary : (r : ℕ → Row) → fileOf l r ≡ binaryFile l r
   unfolding fileOf endMark
   file-binary r =
       rw (
         binary-kind (l .kind) mark [] other,
         append-nil,
-        cat-ext (λ i. bytesOf l (i + 1) (r i)) (λ i. binary.bytesOf l (i + 1) (r i)) (l .rows) (λ i h. bytes-binary (i + 1) (r i)),
+        cat-ext (λ i. bytesOf l (i + 1) (r i)) (λ i. binary.bytesOf l (i + 1) (r i)) (l .rows) (λ i h. bytes-binary l other (i + 1) (r i)),
       )
-
-pub length-bytes : (l : Layout) (n : ℕ) (r : Row) → lengthOf l n r ≡ length (bytesOf l n r)
-unfolding lengthOf
-length-bytes l n r =
-    by-kind (l .kind)
-    (λ e. rw (text-kind (l .kind) (textLength l n r) (binary.rowSize l) e, bytes-text l e n r) (length-text l n r))
-    (λ e. rw (binary-kind (l .kind) (textLength l n r) (binary.rowSize l) e, bytes-binary l e n r) (sym (laws.length-row l n r)))
 
 -- a file of written rows
 module _ (l : Layout) (ok : isSized l ≡ true) (r : ℕ → Row) (writes : (i : ℕ) → i < l .rows → Writes l (r i)) where

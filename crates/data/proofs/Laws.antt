@@ -1,27 +1,18 @@
--- Laws of the kinds, and of what an answer says of the rule that gave it.
---     text-kind                   text
---     binary-arm, not-text, binary-kind     the two binary kinds, by their places among the kinds, or as those that are not text
+-- Laws of what an answer says of the rule that gave it.
 --     row-told                    a row that there is
 --     accepted-fine               a file that is accepted is of a sized layout, and fine
 --     writable                    what is said where a row is written, and what that says of the layout, the row and the room
 -- Assumes nothing.
-use mathlib.Core.Path.{_≡_, refl}
-use mathlib.Core.Logic.{⊎-elim}
+use mathlib.Core.Path.{_≡_}
 use mathlib.Core.Bool.{true}
-use mathlib.Core.List.{List, [], _∷_}
+use mathlib.Core.List.{List}
 use Prim.Native.Nat.{ℕ, _+_, _≤_}
-use native.Mathlib.Omega.{arith}
 use borrow.Author.Tests.{eqb-true, leb-true}
-use denote.Enum.Declared.{tagOf}
 use lib.Dec.{eqb, leb}
 use lib.ListN.{length}
-use types.Run.{OneOf}
 use Rattle.ground.specs.Said.{says, _>>_, must}
 use Rattle.ground.proofs.Every.{and-split}
 use Rattle.ground.proofs.SaidLaws.{must-told}
-use Rattle.model.proofs.Kind.{the-type}
-use Rattle.model.specs.declared.Kind.{Kind}
-use Rattle.model.specs.declared.Kind.the-variants.{Ascii, Binary, Binary32}
 use Rattle.model.specs.declared.Layout.{Layout}
 use Rattle.model.specs.declared.Row.{Row}
 use Rattle.model.specs.declared.Answer.the-variants.{Yes}
@@ -29,23 +20,8 @@ use Rattle.model.specs.Layouts.{isSized, Sized}
 use Rattle.model.specs.Refusals.{refused}
 use Rattle.model.proofs.AnswerLaws.{yes-told}
 use Rattle.model.proofs.LayoutLaws.{sized}
-use Rattle.data.specs.Files.{byKind, fileFine, bytesOf, hasRow, misfitOf, checkFile, writeSaid}
-
-pub binary-arm : {A : Type 0} (k : Kind) (text binary : A) → OneOf (1 ∷ (2 ∷ [])) (tagOf the-type k) → byKind k text binary ≡ binary
-binary-arm Ascii text binary h = ⊎-elim (λ e. absurd (omega arith)) (λ e. absurd (omega arith)) h
-binary-arm Binary text binary h = refl
-binary-arm Binary32 text binary h = refl
-
-pub text-kind : {A : Type 0} (k : Kind) (text binary : A) → k ≡ Ascii → byKind k text binary ≡ text
-text-kind k text binary e = rw e
-
-pub not-text : (k : Kind) → OneOf (1 ∷ (2 ∷ [])) (tagOf the-type k) → k ≡ Ascii → ⊥
-not-text k h e = omega (arith, binary-arm {A = ℕ} k 0 1 h, text-kind {A = ℕ} k 0 1 e)
-
-pub binary-kind : {A : Type 0} (k : Kind) (text binary : A) → (k ≡ Ascii → ⊥) → byKind k text binary ≡ binary
-binary-kind Ascii text binary h = absurd (h refl)
-binary-kind Binary text binary h = refl
-binary-kind Binary32 text binary h = refl
+use Rattle.row_bytes.specs.Rows.{bytesOf}
+use Rattle.data.specs.Files.{fileFine, hasRow, misfitOf, checkFile, writeSaid}
 
 pub row-told : (l : Layout) (n : ℕ) → hasRow l n ≡ true → (1 ≤ n) × (n ≤ l .rows)
 unfolding hasRow

@@ -6,8 +6,6 @@ use lib.Dec.{eqb, leb}
 use lib.ListN.{length}
 use Rattle.ground.specs.Said.{Said, says, refuses, _>>_, must}
 use Rattle.ground.specs.Tables.{cat}
-use Rattle.model.specs.declared.Kind.{Kind}
-use Rattle.model.specs.declared.Kind.the-variants.{Ascii, Binary, Binary32}
 use Rattle.model.specs.declared.Layout.{Layout}
 use Rattle.model.specs.declared.Row.{Row}
 use Rattle.model.specs.declared.Refusal.{Refusal}
@@ -16,17 +14,10 @@ use Rattle.model.specs.declared.Answer.the-variants as answer
 use Rattle.model.specs.Layouts.{isSized}
 use Rattle.model.specs.Refusals.{refused, answerOf}
 use Rattle.model.specs.Rows.{zeroRow, misfit}
-use Rattle.binary_row.specs.Rows as binary
 use Rattle.binary_file.specs.Files as binary_file
-use Rattle.ascii_plain.specs.Rows as plain
 use Rattle.ascii_file.specs.Files as ascii_file
+use Rattle.row_bytes.specs.Rows.{byKind, bytesOf}
 use Rattle.data.specs.declared.RowAnswer.{RowAnswer}
-
--- what is said by the kind; the two binary kinds differ by the layout alone
-abbrev pub byKind : {A : Type 0} → Kind → A → A → A
-byKind Ascii text binary = text
-byKind Binary text binary = binary
-byKind Binary32 text binary = binary
 
 -- the file is fine
 unfoldable pub fileFine : Layout → List ℕ → Said Refusal (Unit {0})
@@ -35,10 +26,6 @@ fileFine l s = byKind (l .kind) (ascii_file.checkText l s) (binary_file.checkBin
 -- row i of a file, counted from 0
 unfoldable pub rowAt : Layout → List ℕ → ℕ → Row
 rowAt l s i = byKind (l .kind) (ascii_file.textRow l i s) (binary_file.binaryRow l i s)
-
--- the bytes that row n is written in; its places past A and D are not read
-unfoldable pub bytesOf : Layout → ℕ → Row → List ℕ
-bytesOf l n r = byKind (l .kind) (plain.textOf l n r) (binary.bytesOf l n r)
 
 -- there is a row n
 unfoldable pub hasRow : Layout → ℕ → Bool

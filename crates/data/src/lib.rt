@@ -14,8 +14,7 @@ ghost use Rattle.model.specs.Layouts.{Sized};
 ghost use Rattle.model.specs.Refusals.{writtenOf};
 ghost use Rattle.binary_file.specs.Files.{checkBinary, binaryRow};
 ghost use Rattle.ascii_file.specs.Files.{checkText, textRow};
-ghost use Rattle.data.specs.Files.{bytesOf, hasRow, misfitOf, checkFile, rowAnswer, shown, showRow, writeSaid};
-ghost use Rattle.data.specs.Inner.{lengthOf};
+ghost use Rattle.data.specs.Files.{hasRow, checkFile, rowAnswer, shown, showRow, writeSaid};
 
 // A row, or a refusal and the row with every place zero.
 pub struct RowAnswer {
@@ -111,18 +110,6 @@ pub fn show_row(layout: Layout, data: &[u8], n: u32) -> RowAnswer
     }
 }
 
-// How many bytes row n takes.
-pub fn row_length(layout: Layout, n: u32, row: Row) -> usize
-    requires { ⌜ Sized layout ⌝ }
-    ensures { λ r. ⌜ r ≡ lengthOf layout n row ⌝ }
-{
-    let kind = layout.kind;
-    match kind {
-        Kind::Ascii => ascii_plain::text_length(layout, n, row),
-        Kind::Binary | Kind::Binary32 => binary_row::row_size(layout),
-    }
-}
-
 // How many bytes row n takes, or why it is not written where there is room for so many.
 fn may_write(layout: Layout, n: u32, row: Row, room: usize) -> Written
     ensures { λ r. ⌜ r ≡ writtenOf (writeSaid layout n row room) ⌝ }
@@ -138,7 +125,7 @@ fn may_write(layout: Layout, n: u32, row: Row, room: usize) -> Written
     let samples = row.samples;
     let bad = model::first_misfit(kind, samples, a);
     let field = 3 + bad as u32;
-    let size = row_length(layout, n, row);
+    let size = row_bytes::row_length(layout, n, row);
     if bad != a {
         return Written::No(model::refused(16, n, field));
     }
@@ -146,22 +133,6 @@ fn may_write(layout: Layout, n: u32, row: Row, room: usize) -> Written
         return Written::No(model::refused(17, 0, 0));
     }
     Written::Bytes(size)
-}
-
-// The bytes of row n fill the slice.
-pub fn put_row(layout: Layout, n: u32, row: Row, d: &mut [u8])
-    requires { ⌜ (Sized layout) × (length (now d) ≡ lengthOf layout n row) × (misfitOf layout row ≡ layout .analogs) ⌝ }
-    ensures { λ _. ⌜ now (d .exit) ≡ bytesOf layout n row ⌝ }
-{
-    let kind = layout.kind;
-    match kind {
-        Kind::Ascii => {
-            ascii_plain::put_text(layout, n, row, d);
-        }
-        Kind::Binary | Kind::Binary32 => {
-            binary_row::put_row(layout, n, row, d);
-        }
-    }
 }
 
 // Row n is written at the front of `out`, or nothing is.
@@ -173,7 +144,7 @@ pub fn write_row(layout: Layout, n: u32, row: Row, out: &mut [u8]) -> Written
     let answer = may_write(layout, n, row, room);
     match answer {
         Written::Bytes(size) => {
-            put_row(layout, n, row, &mut out[..size]);
+            row_bytes::put_row(layout, n, row, &mut out[..size]);
             answer
         }
         Written::No(_) => answer,

@@ -38,7 +38,8 @@ use Rattle.model.proofs.AnswerLaws.{no-told}
 use Rattle.config_rules.specs.declared.Config.{Config}
 use Rattle.config.specs.Reading.{saidOf}
 use Rattle.config.specs.Config.{noConfig, configAnswer, configuration, readConfig}
-use Rattle.data.specs.Files.{fileFine, rowAt, bytesOf, hasRow, misfitOf, checkFile, rowAnswer, showRow, writeSaid}
+use Rattle.row_bytes.specs.Rows.{bytesOf}
+use Rattle.data.specs.Files.{fileFine, rowAt, hasRow, misfitOf, checkFile, rowAnswer, showRow, writeSaid}
 use Rattle.data.proofs.Laws.{row-told, writable}
 use Rattle.change.specs.Change.{fitRows, changed, bytesNeeded, changeSaid}
 use Rattle.change.proofs.WriteLaws.{change-needs, ready}

@@ -34,7 +34,8 @@ use Rattle.model.specs.declared.Answer.the-variants.{Yes}
 use Rattle.model.specs.Layouts.{Sized, inKind}
 use Rattle.model.specs.Refusals.{refused}
 use Rattle.model.specs.Rows.{trimmed}
-use Rattle.data.specs.Files.{bytesOf, hasRow, misfitOf, checkFile, rowAnswer, showRow, writeSaid, fileOf}
+use Rattle.row_bytes.specs.Rows.{bytesOf}
+use Rattle.data.specs.Files.{hasRow, misfitOf, checkFile, rowAnswer, showRow, writeSaid, fileOf}
 use Rattle.model.proofs.LayoutLaws.{sized-is}
 use Rattle.data.proofs.Laws.{row-told, writable}
 use Rattle.data.proofs.FileLaws.{Writes}

@@ -41,7 +41,8 @@ use Rattle.ascii_row.specs.Rows as ascii
 use Rattle.ascii_row.specs.Rows.{fieldFine, fieldsOf, checkFields, checkNumber, checkLine}
 use Rattle.ascii_file.specs.Files as ascii_file
 use Rattle.ascii_file.specs.Files.{scanRow, found, checkRow, isEnding, checkText}
-use Rattle.data.specs.Files.{byKind, fileFine, misfitOf}
+use Rattle.row_bytes.specs.Rows.{byKind}
+use Rattle.data.specs.Files.{fileFine, misfitOf}
 use Rattle.change.specs.Change.{fitRow, fitRows}
 
 -- the numbers for "no", each at its place: line and field, or row and field; both count from 1

@@ -58,7 +58,8 @@ use Rattle.ascii_row.specs.Rows.{fieldFine, checkFields, checkNumber, checkLine
 use Rattle.ascii_plain.specs.Rows.{lineOf, textOf}
 use Rattle.ascii_file.specs.Files as ascii_file
 use Rattle.ascii_file.specs.Files.{checkRow, isEnding, checkText, firstLine, afterRows, textRow, mark}
-use Rattle.data.specs.Files.{fileFine, rowAt, bytesOf, hasRow, misfitOf, checkFile, showRow, writeSaid, endMark, fileOf}
+use Rattle.row_bytes.specs.Rows.{bytesOf}
+use Rattle.data.specs.Files.{fileFine, rowAt, hasRow, misfitOf, checkFile, showRow, writeSaid, endMark, fileOf}
 use Rattle.change.specs.Change.{fitRow, fitRows, bytesNeeded, changed, changeSaid}
 use Rattle.change.proofs.WriteLaws.{needed-length, change-needs}
 use Rattle.demands.proofs.Calls.{never-17}

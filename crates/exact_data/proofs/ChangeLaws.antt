@@ -32,9 +32,11 @@ use Rattle.model.specs.Rows.{trimmed}
 use Rattle.model.proofs.FitLaws.{misfit-le, misfit-first}
 use Rattle.model.proofs.LayoutLaws.{sized-is, sized-in}
 use Rattle.ascii_file.specs.Files.{mark}
-use Rattle.data.specs.Files.{byKind, fileFine, rowAt, bytesOf, misfitOf, endMark, fileOf}
+use Rattle.row_bytes.specs.Rows.{byKind, bytesOf}
+use Rattle.row_bytes.proofs.KindLaws.{by-kind}
+use Rattle.data.specs.Files.{fileFine, rowAt, misfitOf, endMark, fileOf}
 use Rattle.data.proofs.FileLaws as files
-use Rattle.data.proofs.FileLaws.{by-kind, Writes}
+use Rattle.data.proofs.FileLaws.{Writes}
 use Rattle.change.specs.Change.{fitRows, changed, changeSaid}
 use Rattle.paper.specs.Data.{InRange, sampleOf, TextFile, DataFile}
 use Rattle.paper.specs.Written.{EndingOf, PlainText, Restored, AllInRange, FirstOutside}

@@ -36,8 +36,8 @@ use Rattle.binary_file.specs.Files.{checkBinary, binaryRow}
 use Rattle.ascii_file.specs.Files.{checkText, textRow}
 use Rattle.data.specs.declared.RowAnswer.{RowAnswer}
 use Rattle.data.specs.Files.{fileFine, rowAt, hasRow, checkFile, rowAnswer, showRow}
-use Rattle.data.proofs.Laws.{text-kind, binary-kind, row-told, accepted-fine}
-use Rattle.data.proofs.FileLaws.{by-kind}
+use Rattle.data.proofs.Laws.{row-told, accepted-fine}
+use Rattle.row_bytes.proofs.KindLaws.{text-kind, binary-kind, by-kind}
 use Rattle.paper.specs.Lines.{Line}
 use Rattle.paper.specs.Data.{TextLine, TextFile, BinaryRow, BinaryFile, FileOf, DataFile}
 use Rattle.exact_data.proofs.BinaryLaws.{binary-exactly}

@@ -38,8 +38,11 @@ use Rattle.ascii_plain.specs.Rows.{lineOf, textOf}
 use Rattle.ascii_plain.proofs.LengthLaws.{line-most}
 use Rattle.ascii_plain.proofs.LineLaws.{line-bytes-plain}
 use Rattle.ascii_file.proofs.RoundLaws.{line-fine, line-back}
-use Rattle.data.specs.Files.{bytesOf, misfitOf}
-use Rattle.data.proofs.FileLaws.{by-kind, Writes, fits-text, bytes-text, bytes-binary}
+use Rattle.row_bytes.specs.Rows.{bytesOf}
+use Rattle.row_bytes.proofs.KindLaws.{by-kind}
+use Rattle.row_bytes.proofs.RowLaws.{bytes-text, bytes-binary}
+use Rattle.data.specs.Files.{misfitOf}
+use Rattle.data.proofs.FileLaws.{Writes, fits-text}
 use Rattle.paper.specs.Lines.{ended}
 use Rattle.paper.specs.Data as page
 use Rattle.paper.specs.Data.{InRange, sampleOf, TextEnding, TextFile, BinaryFile, DataFile}

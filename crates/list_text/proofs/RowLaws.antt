@@ -25,8 +25,7 @@ use Rattle.ascii_row.specs.Rows.{fieldsOf, checkLine}
 use Rattle.binary_row.specs.Rows.{rowSize}
 use Rattle.ascii_file.specs.Files.{scanRow, checkRow, lineTaken}
 use Rattle.ascii_file.proofs.Laws.{row-fine}
-use Rattle.data.proofs.FileLaws.{by-kind}
-use Rattle.data.proofs.Laws.{text-kind, binary-kind}
+use Rattle.row_bytes.proofs.KindLaws.{text-kind, binary-kind, by-kind}
 use Rattle.data.specs.Files.{fileFine}
 use Rattle.rows.specs.Walks.{takenHere, restOf, HasRow, fineHere, checkHere, startFine, walkFine}
 use Rattle.rows.proofs.WalkLaws.{rest-none, rest-next, fine-walk, fine-taken, taken-within, has-row}

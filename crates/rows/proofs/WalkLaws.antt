@@ -26,9 +26,8 @@ use Rattle.binary_file.specs.Files as binary_file
 use Rattle.binary_file.proofs.Laws.{length-told}
 use Rattle.ascii_file.specs.Files as ascii_file
 use Rattle.ascii_file.proofs.Laws as text-laws
+use Rattle.row_bytes.proofs.KindLaws.{text-kind, binary-kind, by-kind}
 use Rattle.data.specs.Files.{fileFine, rowAt}
-use Rattle.data.proofs.Laws.{text-kind, binary-kind}
-use Rattle.data.proofs.FileLaws.{by-kind}
 use Rattle.rows.specs.Walks.{takenHere, binaryHere, rowHere, HasRow, restOf, fineHere, checkHere, startFine, endFine, walkFine}
 
 pub walk-turn : (l : Layout) (t : List ℕ) (i rows : ℕ) → i < rows

@@ -12,7 +12,7 @@ use Rattle.ascii_row.specs.Rows as ascii
 use Rattle.binary_row.specs.Rows as binary
 use Rattle.binary_file.specs.Files.{fineRow, checkLength}
 use Rattle.ascii_file.specs.Files.{scanRow, lineTaken, firstLine, afterRows, checkRow, checkEnd}
-use Rattle.data.specs.Files.{byKind}
+use Rattle.row_bytes.specs.Rows.{byKind}
 
 -- how many bytes the row takes with which t begins
 unfoldable pub takenHere : Layout → List ℕ → ℕ

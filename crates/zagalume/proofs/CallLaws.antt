@@ -34,9 +34,10 @@ use Rattle.binary_row.proofs.SizeLaws.{size-le}
 use Rattle.ascii_plain.specs.Rows.{textLength}
 use Rattle.ascii_plain.proofs.LengthLaws.{text-line, line-most}
 use Rattle.data.specs.Files.{showRow, misfitOf, writeSaid}
-use Rattle.data.specs.Inner.{lengthOf}
-use Rattle.data.proofs.Laws.{text-kind, binary-kind, writable}
-use Rattle.data.proofs.FileLaws.{by-kind, length-bytes}
+use Rattle.row_bytes.specs.Inner.{lengthOf}
+use Rattle.row_bytes.proofs.KindLaws.{text-kind, binary-kind, by-kind}
+use Rattle.row_bytes.proofs.RowLaws.{length-bytes}
+use Rattle.data.proofs.Laws.{writable}
 use Rattle.places.specs.Rows.{placesOf, statusPlace, rowPlaces}
 use Rattle.places.specs.Configs.{configPlaces}
 use Rattle.zagalume.specs.Calls.{told, toldWritten}

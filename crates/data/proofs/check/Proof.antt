@@ -1,5 +1,5 @@
 -- `check` meets its contract: a layout within the sizes, and then what the file says by its kind.
-use Rattle.data.proofs.Laws.{binary-arm}
+use Rattle.row_bytes.proofs.KindLaws.{binary-arm}
 use Rattle.data.specs.Files.{fileFine, checkFile}
 use Rattle.binary_file.specs.Files.{checkBinary}
 use Rattle.ascii_file.specs.Files.{checkText}

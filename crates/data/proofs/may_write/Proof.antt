@@ -1,6 +1,7 @@
 -- `may_write` meets its contract: each return is the test that led to it.
-use Rattle.data.specs.Files.{bytesOf, hasRow, misfitOf, writeSaid}
-use Rattle.data.proofs.FileLaws.{length-bytes}
+use Rattle.data.specs.Files.{hasRow, misfitOf, writeSaid}
+use Rattle.row_bytes.specs.Rows.{bytesOf}
+use Rattle.row_bytes.proofs.RowLaws.{length-bytes}
 use Rattle.model.proofs.FitLaws.{misfit-le}
 use Rattle.model.proofs.LayoutLaws.{sized}
 use Rattle.model.specs.Layouts.{isSized, Sized}

@@ -1,5 +1,6 @@
 -- `show_row` meets its contract: a layout within the sizes, a row that there is, and then the row by the kind.
-use Rattle.data.proofs.Laws.{binary-arm, row-told}
+use Rattle.row_bytes.proofs.KindLaws.{binary-arm}
+use Rattle.data.proofs.Laws.{row-told}
 use Rattle.data.specs.Files.{fileFine, rowAt, hasRow, showRow}
 use Rattle.binary_file.specs.Files.{checkBinary, binaryRow}
 use Rattle.ascii_file.specs.Files.{checkText, textRow}

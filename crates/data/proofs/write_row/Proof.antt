@@ -8,9 +8,9 @@ use lib.Seq.{length-take-le}
 use Rattle.ground.specs.Said.{says}
 use Rattle.ground.proofs.SaidLaws.{filled-told, no-byte}
 use Rattle.model.proofs.AnswerLaws.{written-told, unwritten-told}
-use Rattle.data.specs.Files.{writeSaid}
+use Rattle.data.specs.Files.{misfitOf, writeSaid}
 use Rattle.data.proofs.Laws.{Writable, writable}
-use Rattle.data.proofs.FileLaws.{length-bytes}
+use Rattle.row_bytes.proofs.RowLaws.{length-bytes}
 use borrow.Author.Needs.{needs}
 use Rattle.data.proofs.write_row.Statement.{statement}
 use Rattle.data.proofs.write_row.Tie as tie
@@ -44,6 +44,7 @@ slice-aggregate-put-row : tie.Need-slice-aggregate-put-row
 slice-aggregate-put-row c = sym (length-take-le _ _ (omega (arith, within (c .before .before))))
 
 put-row-requires : tie.Need-put-row-requires
+unfolding misfitOf
 put-row-requires c κs =
     let a = c .before .before .before .before .before .before .args in
     let t = told (c .before .before) in

@@ -1,6 +1,6 @@
 -- `rows::check_here` meets its contract, by the kind.
 use Rattle.rows.specs.Walks.{fineHere, checkHere}
-use Rattle.data.proofs.Laws.{binary-arm, not-text}
+use Rattle.row_bytes.proofs.KindLaws.{binary-arm, not-text}
 use Rattle.ascii_file.specs.Files.{checkRow}
 use borrow.Author.Needs.{needs}
 use Rattle.rows.proofs.check_here.Statement.{statement}

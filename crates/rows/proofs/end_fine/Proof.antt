@@ -1,6 +1,6 @@
 -- `rows::end_fine` meets its contract, by the kind.
 use Rattle.rows.specs.Walks.{endFine}
-use Rattle.data.proofs.Laws.{binary-arm}
+use Rattle.row_bytes.proofs.KindLaws.{binary-arm}
 use Rattle.ascii_file.specs.Files.{checkEnd}
 use Rattle.ground.specs.Said.{says}
 use borrow.Author.Needs.{needs}

@@ -1,6 +1,6 @@
 -- `rows::start_fine` meets its contract, by the kind.
 use Rattle.rows.specs.Walks.{startFine}
-use Rattle.data.proofs.Laws.{binary-arm}
+use Rattle.row_bytes.proofs.KindLaws.{binary-arm}
 use Rattle.binary_file.specs.Files.{checkLength}
 use Rattle.ground.specs.Said.{says}
 use borrow.Author.Needs.{needs}

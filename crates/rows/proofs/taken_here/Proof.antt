@@ -1,6 +1,6 @@
 -- `rows::taken_here` meets its contract, by the kind.
 use Rattle.rows.specs.Walks.{takenHere}
-use Rattle.data.proofs.Laws.{binary-arm}
+use Rattle.row_bytes.proofs.KindLaws.{binary-arm}
 use Rattle.ascii_file.specs.Files.{scanRow, lineTaken}
 use Rattle.binary_row.specs.Rows.{rowSize}
 use borrow.Author.Needs.{needs}

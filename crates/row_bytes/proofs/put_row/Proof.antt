@@ -1,13 +1,13 @@
--- `put_row` meets its contract: the kind's writer fills the slice.
-use Rattle.data.proofs.Laws.{binary-arm}
-use Rattle.data.specs.Files.{bytesOf, misfitOf}
-use Rattle.data.specs.Inner.{lengthOf}
+-- `row_bytes::put_row` meets its contract: the kind's writer fills the slice.
+use Rattle.row_bytes.proofs.KindLaws.{binary-arm}
+use Rattle.row_bytes.specs.Rows.{bytesOf}
+use Rattle.row_bytes.specs.Inner.{lengthOf}
 use Rattle.ascii_plain.specs.Rows as plain
 use Rattle.binary_row.specs.Rows as binary
 use mathlib.Core.Path.{sym, _∙_}
 use borrow.Author.Needs.{needs}
-use Rattle.data.proofs.put_row.Statement.{statement}
-use Rattle.data.proofs.put_row.Tie as tie
+use Rattle.row_bytes.proofs.put_row.Statement.{statement}
+use Rattle.row_bytes.proofs.put_row.Tie as tie
 
 enum-told : tie.Need-enum-told
 enum-told c = search needs
@@ -17,7 +17,7 @@ unfolding lengthOf
 put-text-requires c κs = (c .before .before .before .before .pre .0, c .before .before .before .before .pre .1 ∙ rw (c .before .enum-told .given .1))
 
 put-row-requires : tie.Need-put-row-requires
-unfolding lengthOf misfitOf
+unfolding lengthOf
 put-row-requires c κs =
     let a = c .before .before .before .args in
     (c .before .before .before .pre .0, c .before .before .before .pre .1 ∙ binary-arm (a .layout .kind) (plain.textLength (a .layout) (a .n) (a .row)) (binary.rowSize (a .layout)) (c .before .match .keys2), c .before .before .before .pre .2)

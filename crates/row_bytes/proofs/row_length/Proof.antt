@@ -1,11 +1,11 @@
--- `row_length` meets its contract: the length is the kind's.
-use Rattle.data.proofs.Laws.{binary-arm}
-use Rattle.data.specs.Inner.{lengthOf}
+-- `row_bytes::row_length` meets its contract: the length is the kind's.
+use Rattle.row_bytes.proofs.KindLaws.{binary-arm}
+use Rattle.row_bytes.specs.Inner.{lengthOf}
 use Rattle.ascii_plain.specs.Rows.{textLength}
 use Rattle.binary_row.specs.Rows.{rowSize}
 use borrow.Author.Needs.{needs}
-use Rattle.data.proofs.row_length.Statement.{statement}
-use Rattle.data.proofs.row_length.Tie as tie
+use Rattle.row_bytes.proofs.row_length.Statement.{statement}
+use Rattle.row_bytes.proofs.row_length.Tie as tie
 
 enum-told : tie.Need-enum-told
 enum-told c = search needs

@@ -11,12 +11,11 @@ use mathlib.Core.List.{List}
 use Prim.Native.Nat.{ℕ, zero, suc, _+_, _*_, _^_, _<_}
 use native.Mathlib.Nat.{add-zero}
 use native.Mathlib.Omega.{arith}
-use borrow.Author.Tests.{eq-eqb, eqb-true}
-use lib.Dec.{eqb}
+use borrow.Author.Tests.{eq-eqb}
 use lib.ListN.{length}
 use Rattle.ground.specs.Said.{says}
 use Rattle.ground.specs.Tables.{every}
-use Rattle.ground.proofs.SaidLaws.{must-told}
+use Rattle.ground.proofs.SaidLaws.{then-told}
 use Rattle.ground.proofs.Tables.{length-cat, part-cat, cat-ext, cat-part}
 use Rattle.words.specs.Words.{isByte}
 use Rattle.words.proofs.WordLaws.{bytes-part}
@@ -24,9 +23,9 @@ use Rattle.model.specs.declared.Layout.{Layout}
 use Rattle.model.specs.declared.Row.{Row}
 use Rattle.model.specs.Layouts.{Sized}
 use Rattle.model.specs.Rows.{misfit, trimmed}
-use Rattle.binary_row.specs.Rows.{rowSize, rowCheck, bytesOf}
+use Rattle.binary_row.specs.Rows.{rowSize, checkRow, bytesOf}
 use Rattle.binary_row.proofs.RowLaws.{length-row, row-back, row-fine, bytes-back}
-use Rattle.binary_file.specs.Files.{rowBytes, rowRefusal, checkRows, checkBinary, binaryRow, binaryFile}
+use Rattle.binary_file.specs.Files.{rowBytes, checkRows, checkBinary, binaryRow, binaryFile}
 use Rattle.binary_file.proofs.Laws.{row-length, whole}
 
 -- a file of written rows
@@ -54,16 +53,13 @@ module _ (l : Layout) (r : ℕ → Row) where
 -- an accepted file
 module _ (l : Layout) (s : List ℕ) (fine : checkBinary l s ≡ says tt) (bytes : every isByte s ≡ true) where
   -- each of m rows from i on is fine
-  rows-told : (i m : ℕ) → checkRows l s i m ≡ says tt → (j : ℕ) → j < m → rowCheck l (i + j + 1) (rowBytes l (i + j) s) ≡ 0
+  rows-told : (i m : ℕ) → checkRows l s i m ≡ says tt → (j : ℕ) → j < m → checkRow l (i + j + 1) (rowBytes l (i + j) s) ≡ says tt
   unfolding checkRows
   rows-told i zero e j h = absurd (omega arith)
-  rows-told i (suc m) e zero h =
-      let k = rowCheck l (i + 1) (rowBytes l i s) in
-      rw add-zero (eqb-true k 0 (must-told (eqb k 0) (rowRefusal k (i + 1)) (checkRows l s (i + 1) m) tt e .0))
+  rows-told i (suc m) e zero h = rw add-zero (then-told (checkRow l (i + 1) (rowBytes l i s)) (checkRows l s (i + 1) m) tt e .0)
   rows-told i (suc m) e (suc j) h =
-      let k = rowCheck l (i + 1) (rowBytes l i s) in
       let q : i + suc j ≡ i + 1 + j = omega arith in
-      rw q (rows-told (i + 1) m (must-told (eqb k 0) (rowRefusal k (i + 1)) (checkRows l s (i + 1) m) tt e .1) j (omega arith))
+      rw q (rows-told (i + 1) m (then-told (checkRow l (i + 1) (rowBytes l i s)) (checkRows l s (i + 1) m) tt e .1) j (omega arith))
 
   pub row-there : (i : ℕ) → i < l .rows → bytesOf l (i + 1) (binaryRow l i s) ≡ rowBytes l i s
   unfolding binaryRow

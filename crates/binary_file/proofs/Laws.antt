@@ -16,8 +16,8 @@ use Rattle.ground.proofs.SaidLaws.{must-holds, then-told}
 use Rattle.ground.proofs.Tables.{block-end}
 use Rattle.model.specs.declared.Layout.{Layout}
 use Rattle.model.specs.Refusals.{refused}
-use Rattle.binary_row.specs.Rows.{rowSize, rowCheck}
-use Rattle.binary_file.specs.Files.{rowBytes, fineRow, checkRows, checkLength, checkBinary}
+use Rattle.binary_row.specs.Rows.{rowSize, checkRow}
+use Rattle.binary_file.specs.Files.{rowBytes, checkRows, checkLength, checkBinary}
 
 module _ (l : Layout) (s : List ℕ) where
   pub row-end : (i : ℕ) → length s ≡ l .rows * rowSize l → i < l .rows → i * rowSize l + rowSize l ≤ length s
@@ -27,7 +27,7 @@ module _ (l : Layout) (s : List ℕ) where
   row-length i e h = length-part (i * rowSize l) (i * rowSize l + rowSize l) s (row-end i e h) ∙ omega arith
 
   pub rows-turn : (i n : ℕ) → i < n
-      → checkRows l s i (n - i) ≡ (fineRow (rowCheck l (i + 1) (rowBytes l i s)) (i + 1) >> checkRows l s (i + 1) (n - (i + 1)))
+      → checkRows l s i (n - i) ≡ (checkRow l (i + 1) (rowBytes l i s) >> checkRows l s (i + 1) (n - (i + 1)))
   unfolding checkRows
   rows-turn i n h = let e : n - i ≡ suc (n - (i + 1)) = omega arith in rw e
 

@@ -3,32 +3,23 @@ use mathlib.Core.List.{List}
 use Prim.Native.Nat.{ℕ, zero, suc, _+_, _*_}
 use lib.Dec.{eqb}
 use lib.ListN.{length}
-use Rattle.ground.specs.Choice.{if_then_else_}
 use Rattle.ground.specs.Said.{Said, says, refuses, _>>_, must}
 use Rattle.ground.specs.Tables.{part, cat}
 use Rattle.model.specs.declared.Layout.{Layout}
 use Rattle.model.specs.declared.Row.{Row}
 use Rattle.model.specs.declared.Refusal.{Refusal}
 use Rattle.model.specs.Refusals.{refused}
-use Rattle.binary_row.specs.Rows.{rowSize, rowCheck, rowOf, bytesOf}
+use Rattle.binary_row.specs.Rows.{rowSize, checkRow, rowOf, bytesOf}
 
 -- the bytes of row i, counted from 0
 abbrev pub rowBytes : Layout → ℕ → List ℕ → List ℕ
 rowBytes l i s = part (i * rowSize l) (i * rowSize l + rowSize l) s
 
--- the refusal of row n by what its check found: its number is field 1, its padding no field's
-unfoldable pub rowRefusal : ℕ → ℕ → Refusal
-rowRefusal found n = if eqb found 12 then refused 12 n 1 else refused 13 n 0
-
--- row n is fine, by what its check found
-abbrev pub fineRow : ℕ → ℕ → Said Refusal (Unit {0})
-fineRow found n = must (eqb found 0) (rowRefusal found n)
-
 -- m rows are fine, from row i on, counted from 0
 unfoldable pub checkRows : Layout → List ℕ → ℕ → ℕ → Said Refusal (Unit {0})
 checkRows l s i zero = says tt
 checkRows l s i (suc m) = do
-  fineRow (rowCheck l (i + 1) (rowBytes l i s)) (i + 1)
+  checkRow l (i + 1) (rowBytes l i s)
   checkRows l s (i + 1) m
 
 -- a file of the binary kinds has exactly rows times row size bytes

@@ -2,7 +2,6 @@
 // Each function gives exactly what the definition of its name says; the laws of proofs/ say that a file of written rows is accepted and shows them, and that an accepted file is the file of its rows.
 use model::Answer;
 use model::Layout;
-use model::Refusal;
 use model::Row;
 ghost use mathlib.Core.Path.{_≡_};
 ghost use Prim.Native.Nat.{_*_, _<_};
@@ -10,17 +9,7 @@ ghost use lib.ListN.{length};
 ghost use Rattle.model.specs.Layouts.{Sized};
 ghost use Rattle.model.specs.Refusals.{answerOf};
 ghost use Rattle.binary_row.specs.Rows.{rowSize};
-ghost use Rattle.binary_file.specs.Files.{rowRefusal, checkRows, checkLength, checkBinary, binaryRow};
-
-// The refusal of row n, by what its check found: its number is field 1, its padding no field's.
-pub fn row_refusal(found: u32, n: u32) -> Refusal
-    ensures { λ r. ⌜ r ≡ rowRefusal found n ⌝ }
-{
-    if found == 12 {
-        return model::refused(12, n, 1);
-    }
-    model::refused(13, n, 0)
-}
+ghost use Rattle.binary_file.specs.Files.{checkRows, checkLength, checkBinary, binaryRow};
 
 // The rows of a file, each at its place.
 fn check_rows(layout: Layout, data: &[u8]) -> Answer
@@ -34,9 +23,11 @@ fn check_rows(layout: Layout, data: &[u8]) -> Answer
         let from = i as usize * size;
         let to = from + size;
         i += 1;
-        let found = binary_row::row_check(layout, i, &data[from..to]);
-        if found != 0 {
-            return Answer::No(row_refusal(found, i));
+        match binary_row::check_row(layout, i, &data[from..to]) {
+            Answer::No(refusal) => {
+                return Answer::No(refusal);
+            }
+            Answer::Yes => {}
         }
     }
     Answer::Yes

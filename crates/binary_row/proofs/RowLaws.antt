@@ -2,14 +2,14 @@
 --     length-row, bytes-row         the bytes of a row have the size of a row, and are bytes
 --     row-back                      reading what was written gives the row, with its places past A and D zero
 --     row-fine                      what was written has its number, and no padding bit
---     fine                          what a check that finds nothing says
+--     check-told                    what a check that finds nothing says
 --     bytes-back                    writing what was read gives the bytes, where the check finds nothing wrong
 --     row-fits                      every sample that was read fits the kind
 --     row-trimmed                   what was read has its places past A and D zero
 --     unread-bytes                  places past A and D are not written
 -- Assumes nothing.
 use mathlib.Core.Path.{_≡_, refl, sym, ap, _∙_}
-use mathlib.Core.Bool.{Bool, true, false, not}
+use mathlib.Core.Bool.{Bool, true, false}
 use mathlib.Core.List.{List, [], _++_, append-assoc}
 use Prim.Native.Nat.{ℕ, _+_, _-_, _*_, _^_, _<_, _≤_}
 use native.Mathlib.Omega.{arith}
@@ -18,10 +18,11 @@ use lib.Dec.{eqb}
 use lib.IntN.{ℤ, pos}
 use lib.ListN.{length, getD, length-append}
 use lib.Seq.{take-all}
-use Rattle.ground.specs.Choice.{if_then_else_}
+use Rattle.ground.specs.Said.{says, must}
 use Rattle.ground.specs.Tables.{part, padded, every}
 use Rattle.ground.proofs.Every.{every-append}
 use Rattle.ground.proofs.Parts.{part-front, part-back}
+use Rattle.ground.proofs.SaidLaws.{must-told, must-holds}
 use Rattle.ground.proofs.Tables.{tab-ext, cat-ext}
 use Rattle.words.specs.Words.{wordOf, wordBytes, isByte}
 use Rattle.words.specs.Signed.{unsignedOf}
@@ -30,9 +31,10 @@ use Rattle.words.proofs.SignedLaws.{signed-small}
 use Rattle.model.specs.declared.Layout.{Layout}
 use Rattle.model.specs.declared.Row.{Row}
 use Rattle.model.specs.Kinds.{widthOf, halfOf}
+use Rattle.model.specs.Refusals.{refused}
 use Rattle.model.specs.Rows.{trimmed, misfit}
 use Rattle.model.proofs.KindLaws.{fits-size, half-twice, width-pos}
-use Rattle.binary_row.specs.Rows.{wordsOf, samplesEnd, rowSize, numberOfRow, samplesPart, wordsPart, sampleAt, statusAt, paddingFree, rowCheck, rowOf, packed, wordEnd, wordBytesAt, samplesBytes, wordsBytes, headBytes, bytesOf}
+use Rattle.binary_row.specs.Rows.{wordsOf, samplesEnd, rowSize, numberOfRow, samplesPart, wordsPart, sampleAt, statusAt, paddingFree, checkRow, rowOf, packed, wordEnd, wordBytesAt, samplesBytes, wordsBytes, headBytes, bytesOf}
 use Rattle.ground.proofs.Filled.{getD-padded, part-filled, padded-again, parts-join}
 use Rattle.model.proofs.KindLaws.{size-fits}
 use Rattle.model.proofs.FitLaws.{misfit-all, all-misfit}
@@ -119,23 +121,26 @@ module _ (l : Layout) (n : ℕ) (r : Row) where
         tab-ext (statusAt statuses) (λ i. getD (r .statuses) i false) (l .statuses) (status-read (l .statuses) (r .statuses)),
       )
 
-  pub row-fine : n < 2 ^ 32 → rowCheck l n (bytesOf l n r) ≡ 0
-  unfolding rowCheck
+  pub row-fine : n < 2 ^ 32 → checkRow l n (bytesOf l n r) ≡ says tt
+  unfolding checkRow
   row-fine b = rw (number-part, eq-eqb (wordOf (wordBytes 4 n)) n (word-back 4 n b), words-part, padding-read (l .statuses) (r .statuses))
 
-pub fine : (t u : Bool) → _≡_ {A = ℕ} (if not t then 12 else if not u then 13 else 0) 0 → (t ≡ true) × (u ≡ true)
-fine true true e = (refl, refl)
-fine true false e = absurd (omega arith)
-fine false u e = absurd (omega arith)
+pub check-told : (l : Layout) (n : ℕ) (b : List ℕ) → checkRow l n b ≡ says tt → (numberOfRow b ≡ n) × (paddingFree (l .statuses) (wordsPart l b) ≡ true)
+unfolding checkRow
+check-told l n b e =
+    let number = eqb (numberOfRow b) n in
+    let free = paddingFree (l .statuses) (wordsPart l b) in
+    let t = must-told number (refused 12 n 1) (must free (refused 13 n 0)) tt e in
+    (eqb-true (numberOfRow b) n (t .0), must-holds free (refused 13 n 0) (t .1))
 
-pub bytes-back : (l : Layout) (n : ℕ) (b : List ℕ) → length b ≡ rowSize l → every isByte b ≡ true → rowCheck l n b ≡ 0 → bytesOf l n (rowOf l b) ≡ b
-unfolding rowCheck bytesOf rowOf
+pub bytes-back : (l : Layout) (n : ℕ) (b : List ℕ) → length b ≡ rowSize l → every isByte b ≡ true → checkRow l n b ≡ says tt → bytesOf l n (rowOf l b) ≡ b
+unfolding bytesOf rowOf
 bytes-back l n b long bytes e =
     let s = sizes l in
-    let f = fine (eqb (numberOfRow b) n) (paddingFree (l .statuses) (wordsPart l b)) e in
+    let f = check-told l n b e in
     let k = l .kind in
     rw (
-      ← eqb-true (numberOfRow b) n (f .0),
+      ← f .0,
       part-word 0 4 4 b refl (omega arith) bytes,
       part-word 4 8 4 b refl (omega arith) bytes,
       samples-written (widthOf k) (width-pos k) (l .analogs) 96 (samplesPart l b) (samples-length l b long) (bytes-part 8 (samplesEnd l) b bytes),

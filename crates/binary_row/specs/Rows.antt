@@ -1,17 +1,20 @@
 -- Rows of the two binary kinds: what the bytes of a row say, and the bytes that a row has.
-use mathlib.Core.Bool.{Bool, true, false, not}
+use mathlib.Core.Bool.{Bool, true, false}
 use mathlib.Core.List.{List, [], _∷_, _++_}
 use Prim.Native.Nat.{ℕ, _+_, _*_, _/_, _%_, _^_, min}
 use lib.Dec.{eqb}
 use lib.IntN.{ℤ, pos}
 use lib.ListN.{getD}
 use Rattle.ground.specs.Choice.{if_then_else_}
+use Rattle.ground.specs.Said.{Said, _>>_, must}
 use Rattle.ground.specs.Tables.{part, padded, cat}
 use Rattle.words.specs.Words.{wordOf, wordBytes}
 use Rattle.words.specs.Signed.{signedOf, unsignedOf}
 use Rattle.model.specs.declared.Layout.{Layout}
 use Rattle.model.specs.declared.Row.{Row}
+use Rattle.model.specs.declared.Refusal.{Refusal}
 use Rattle.model.specs.Kinds.{widthOf, halfOf}
+use Rattle.model.specs.Refusals.{refused}
 
 -- how many words hold d statuses: d / 16 rounded up
 abbrev pub wordsOf : ℕ → ℕ
@@ -61,12 +64,11 @@ statusAt b i = bitOf (wordAt b (i / 16)) (i % 16)
 abbrev pub paddingFree : ℕ → List ℕ → Bool
 paddingFree d b = if eqb (d % 16) 0 then true else eqb (wordAt b (d / 16) / 2 ^ (d % 16)) 0
 
--- what is wrong with the bytes of row n: 12 its number, 13 its padding, 0 nothing
-unfoldable pub rowCheck : Layout → ℕ → List ℕ → ℕ
-rowCheck l n b =
-    if not (eqb (numberOfRow b) n) then 12
-    else if not (paddingFree (l .statuses) (wordsPart l b)) then 13
-    else 0
+-- the bytes of row n: its number, which is field 1, and then its padding, which is no field's
+unfoldable pub checkRow : Layout → ℕ → List ℕ → Said Refusal (Unit {0})
+checkRow l n b = do
+  must (eqb (numberOfRow b) n) (refused 12 n 1)
+  must (paddingFree (l .statuses) (wordsPart l b)) (refused 13 n 0)
 
 -- the row that bytes are; its number is left to the check
 unfoldable pub rowOf : Layout → List ℕ → Row

@@ -1,5 +1,6 @@
 // Rows of the two binary kinds: read from bytes and written to bytes, by the sample width alone.
 // Each function gives exactly what the definition of its name says; the laws of proofs/ say that reading undoes writing, and writing reading.
+use model::Answer;
 use model::Kind;
 use model::Layout;
 use model::Row;
@@ -12,8 +13,9 @@ ghost use lib.ListN.{length};
 ghost use Rattle.ground.specs.Tables.{tab, padded};
 ghost use Rattle.model.specs.Kinds.{widthOf, halfOf};
 ghost use Rattle.model.specs.Layouts.{Sized};
+ghost use Rattle.model.specs.Refusals.{answerOf};
 ghost use Rattle.model.specs.Rows.{misfit};
-ghost use Rattle.binary_row.specs.Rows.{wordsOf, samplesEnd, rowSize, sampleAt, bitOf, statusAt, paddingFree, timeOfRow, rowCheck, rowOf, packed, samplesBytes, wordsBytes, headBytes, bytesOf};
+ghost use Rattle.binary_row.specs.Rows.{wordsOf, samplesEnd, rowSize, sampleAt, bitOf, statusAt, paddingFree, timeOfRow, checkRow, rowOf, packed, samplesBytes, wordsBytes, headBytes, bytesOf};
 
 // Bytes of a row's number, and of its timestamp.
 const NUMBER: usize = 4;
@@ -71,21 +73,21 @@ fn padding_free(d: usize, b: &[u8]) -> bool
     word & mask == 0
 }
 
-// What is wrong with the bytes of row n: 12 its number, 13 its padding, 0 nothing.
-pub fn row_check(layout: Layout, n: u32, bytes: &[u8]) -> u32
+// Whether the bytes of row n are fine, or the first refusal: its number is field 1, its padding no field's.
+pub fn check_row(layout: Layout, n: u32, bytes: &[u8]) -> Answer
     requires { ⌜ (Sized layout) × (length (now bytes) ≡ rowSize layout) ⌝ }
-    ensures { λ r. ⌜ r ≡ rowCheck layout n (now (bytes .entry)) ⌝ }
+    ensures { λ r. ⌜ r ≡ answerOf (checkRow layout n (now (bytes .entry))) ⌝ }
 {
     let d = layout.statuses as usize;
     let mid = samples_end(layout);
     let end = bytes.len();
     if words::word_of(&bytes[0..NUMBER]) != n {
-        return 12;
+        return Answer::No(model::refused(12, n, 1));
     }
     if !padding_free(d, &bytes[mid..end]) {
-        return 13;
+        return Answer::No(model::refused(13, n, 0));
     }
-    0
+    Answer::Yes
 }
 
 // The a samples of the bytes, and zeros.

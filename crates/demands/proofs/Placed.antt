@@ -12,7 +12,6 @@ use native.Mathlib.Omega.{arith}
 use lib.Dec.{lit≤, eqb, leb}
 use lib.ListN.{length, take, drop}
 use Rattle.ground.specs.Said.{Said, says, refuses, _>>=_, _>>_, must}
-use Rattle.ground.proofs.Cases.{on-test}
 use Rattle.ground.proofs.RefusalLaws.{RefusesOnly, only-must, only-then, only-bind}
 use Rattle.text.specs.declared.Scanned.{Scanned}
 use Rattle.text.specs.declared.Scanned.the-variants.{Line, Ends, Bad}
@@ -34,9 +33,10 @@ use Rattle.config_rules.specs.declared.Config.{Config}
 use Rattle.config.specs.Reading as reading
 use Rattle.config.specs.Reading.{Place, saidOf, inLine, scanned, line, lastLine, times}
 use Rattle.config.specs.Config.{lastRows, size, nothingMore, configuration}
-use Rattle.binary_row.specs.Rows.{rowSize, rowCheck}
+use Rattle.binary_row.specs.Rows as binary
+use Rattle.binary_row.specs.Rows.{rowSize, numberOfRow, wordsPart, paddingFree}
 use Rattle.binary_file.specs.Files as binary_file
-use Rattle.binary_file.specs.Files.{rowBytes, rowRefusal, fineRow, checkLength, checkBinary}
+use Rattle.binary_file.specs.Files.{rowBytes, checkLength, checkBinary}
 use Rattle.ascii_row.specs.Rows as ascii
 use Rattle.ascii_row.specs.Rows.{fieldFine, fieldsOf, checkFields, checkNumber, checkLine}
 use Rattle.ascii_file.specs.Files as ascii_file
@@ -91,18 +91,21 @@ abbrev pub PlacedTo : ℕ → Refusal → Type 0
 PlacedTo most r = Placed r × (r .number ≤ most)
 
 -- A DATA FILE
-row-placed : (what n : ℕ) → 1 ≤ n → RefusesOnly (PlacedTo 16) (fineRow what n)
-unfolding rowRefusal
-row-placed what n h =
-    only-must (PlacedTo 16) (eqb what 0) (rowRefusal what n) (λ e.
-    on-test (eqb what 12) (λ f. rw f (row-number n h, lit≤ tt)) (λ f. rw f (row-padding n h, lit≤ tt)))
+row-placed : (l : Layout) (n : ℕ) (b : List ℕ) → 1 ≤ n → RefusesOnly (PlacedTo 16) (binary.checkRow l n b)
+unfolding binary.checkRow
+row-placed l n b h =
+    let number = eqb (numberOfRow b) n in
+    let free = paddingFree (l .statuses) (wordsPart l b) in
+    only-then (PlacedTo 16) (must number (refused 12 n 1)) (must free (refused 13 n 0))
+    (only-must (PlacedTo 16) number (refused 12 n 1) (λ e. (row-number n h, lit≤ tt)))
+    (λ e. only-must (PlacedTo 16) free (refused 13 n 0) (λ f. (row-padding n h, lit≤ tt)))
 
 binary-rows : (l : Layout) (s : List ℕ) (i m : ℕ) → RefusesOnly (PlacedTo 16) (binary_file.checkRows l s i m)
 unfolding binary_file.checkRows
 binary-rows l s i zero = tt
 binary-rows l s i (suc m) =
-    only-then (PlacedTo 16) (fineRow (rowCheck l (i + 1) (rowBytes l i s)) (i + 1)) (binary_file.checkRows l s (i + 1) m)
-    (row-placed (rowCheck l (i + 1) (rowBytes l i s)) (i + 1) (omega arith))
+    only-then (PlacedTo 16) (binary.checkRow l (i + 1) (rowBytes l i s)) (binary_file.checkRows l s (i + 1) m)
+    (row-placed l (i + 1) (rowBytes l i s) (omega arith))
     (λ e. binary-rows l s (i + 1) m)
 
 binary-placed : (l : Layout) (s : List ℕ) → RefusesOnly (PlacedTo 16) (checkBinary l s)

@@ -49,9 +49,9 @@ use Rattle.model.specs.Refusals.{refused}
 use Rattle.model.specs.Rows.{zeroRow, misfit}
 use Rattle.config.specs.Config.{readConfig}
 use Rattle.binary_row.specs.Rows as binary
-use Rattle.binary_row.specs.Rows.{rowSize, rowCheck, packed}
+use Rattle.binary_row.specs.Rows.{rowSize, packed}
 use Rattle.binary_file.specs.Files as binary_file
-use Rattle.binary_file.specs.Files.{rowRefusal, checkBinary, binaryRow}
+use Rattle.binary_file.specs.Files.{checkBinary, binaryRow}
 use Rattle.ascii_row.specs.Fields.{readTime, readSample, isStatus, timeIn, sampleIn, statusIn}
 use Rattle.ascii_row.specs.Rows as ascii
 use Rattle.ascii_row.specs.Rows.{fieldFine, checkFields, checkNumber, checkLine}
@@ -122,7 +122,7 @@ computed :
 unfolding checkFile showRow writeSaid isSized hasRow fileFine rowAt checkText ascii_file.checkRows checkRow isEnding scanLine firstLine afterRows textRow fieldCount afterFields fieldAt
     checkLine checkNumber checkFields fieldFine ascii.rowOf readTime readSample isStatus timeIn sampleIn statusIn lengthIn isDigit numberOf readCount signLength hasMinus withSign signedNumber readWhole fitsKind
     changeSaid fitRows misfitOf misfit rowSize changed fileOf endMark bytesOf binary.bytesOf packed wordBytes wordOf signedOf unsignedOf
-    checkBinary binary_file.checkRows binaryRow binary.rowOf rowCheck rowRefusal decimalIn decimal plain lineOf textOf
+    checkBinary binary_file.checkRows binaryRow binary.rowOf binary.checkRow decimalIn decimal plain lineOf textOf
 computed = (
   (refl, refl, refl, refl, refl),
   (refl, refl, refl),

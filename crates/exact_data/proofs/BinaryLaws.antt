@@ -8,8 +8,8 @@ use mathlib.Core.Bool.{true, false, _&&_}
 use mathlib.Core.List.{List}
 use Prim.Native.Nat.{ℕ, _+_, _*_, _/_, _%_, _<_, _≤_}
 use native.Mathlib.Omega.{arith}
-use borrow.Author.Tests.{eq-eqb, eqb-true, lt-ltb, le-ltb}
-use lib.Dec.{eqb, ltb}
+use borrow.Author.Tests.{eq-eqb, lt-ltb, le-ltb}
+use lib.Dec.{ltb}
 use lib.IntN.{ℤ, pos}
 use lib.ListN.{length}
 use Rattle.ground.specs.Said.{says}
@@ -27,7 +27,7 @@ use Rattle.model.specs.Kinds.{widthOf, halfOf}
 use Rattle.model.specs.Layouts.{Sized}
 use Rattle.model.specs.Rows.{trimmed}
 use Rattle.model.proofs.KindLaws.{width-pos}
-use Rattle.binary_row.specs.Rows.{wordsOf, samplesEnd, rowSize, numberOfRow, samplesPart, wordsPart, sampleAt, wordAt, statusAt, paddingFree, rowCheck, rowOf, bytesOf}
+use Rattle.binary_row.specs.Rows.{wordsOf, samplesEnd, rowSize, numberOfRow, samplesPart, wordsPart, sampleAt, wordAt, statusAt, paddingFree, checkRow, rowOf, bytesOf}
 use Rattle.binary_row.proofs.SizeLaws.{sizes}
 use Rattle.binary_row.proofs.RowLaws as laws
 use Rattle.binary_file.specs.Files.{rowBytes, checkBinary, binaryRow, binaryFile}
@@ -93,12 +93,12 @@ module _ (l : Layout) (b : List ℕ) (bytes : every isByte b ≡ true) (size : l
 -- the bytes b are read as row n, which is r
 pub record Reads (l : Layout) (n : ℕ) (r : Row) (b : List ℕ) : Type 0 where
   pub size : length b ≡ rowSize l
-  pub fine : rowCheck l n b ≡ 0
+  pub fine : checkRow l n b ≡ says tt
   pub row : rowOf l b ≡ r
 
 module _ (l : Layout) (n : ℕ) (r : Row) (b : List ℕ) (bytes : every isByte b ≡ true) where
   row-to : BinaryRow l n r b → Reads l n r b
-  unfolding rowCheck rowOf trimmed
+  unfolding checkRow rowOf trimmed
   row-to t =
       let size : length b ≡ rowSize l = t .size ∙ sym (sizes l) in
       let k = l .kind in
@@ -114,14 +114,14 @@ module _ (l : Layout) (n : ℕ) (r : Row) (b : List ℕ) (bytes : every isByte b
             (t .beyond);
       }
 
-  row-own : length b ≡ rowSize l → rowCheck l n b ≡ 0 → BinaryRow l n (rowOf l b) b
-  unfolding rowCheck rowOf
+  row-own : length b ≡ rowSize l → checkRow l n b ≡ says tt → BinaryRow l n (rowOf l b) b
+  unfolding rowOf
   row-own size fine =
       let k = l .kind in
-      let f = laws.fine (eqb (numberOfRow b) n) (paddingFree (l .statuses) (wordsPart l b)) fine in
+      let f = laws.check-told l n b fine in
       record {
         size = size ∙ sizes l;
-        number = low-first (part 0 4 b) ∙ eqb-true (numberOfRow b) n (f .0);
+        number = low-first (part 0 4 b) ∙ f .0;
         time = low-first (part 4 8 b);
         samples = λ i h. sample-is l b bytes size i _ h .1 (sym (getD-padded (sampleAt (widthOf k) (halfOf k) (samplesPart l b)) (l .analogs) 96 i (pos 0) (pos 0) h));
         statuses = statuses-from l b bytes size (rowOf l b) (λ i h. sym (getD-padded (statusAt (wordsPart l b)) (l .statuses) 256 i false false h)) (f .1);
@@ -148,7 +148,7 @@ module _ (l : Layout) (r : ℕ → Row) (s : List ℕ) (sized : Sized l) (bytes 
             row-exactly l (i + 1) (r i) b (bytes-part (i * rowSize l) (i * rowSize l + rowSize l) s bytes) .1
             (record {
               size = row-length l s i long h;
-              fine = ap (rowCheck l (i + 1)) (sym (row-there l s e bytes i h)) ∙ laws.row-fine l (i + 1) (binaryRow l i s) (omega (arith, sized .rows));
+              fine = ap (checkRow l (i + 1)) (sym (row-there l s e bytes i h)) ∙ laws.row-fine l (i + 1) (binaryRow l i s) (omega (arith, sized .rows));
               row = rows i h;
             });
       }

@@ -88,7 +88,7 @@ module _ (l : Layout) (other : l .kind ≡ Ascii → ⊥) where
   binary-walk s i zero = binary-kind (l .kind) (ascii_file.checkEnd (i + 1) (drop (i * binary.rowSize l) s)) (says tt) other
   binary-walk s i (suc m) =
       rw (binary-check (i + 1) (drop (i * binary.rowSize l) s), ← front s i)
-      (then-bind (binary_file.fineRow (binary.rowCheck l (i + 1) (binary_file.rowBytes l i s)) (i + 1)) (binary.rowSize l)
+      (then-bind (binary.checkRow l (i + 1) (binary_file.rowBytes l i s)) (binary.rowSize l)
       (λ k. walkFine l (drop k (drop (i * binary.rowSize l) s)) (i + 1 + 1) m)
       (binary_file.checkRows l s (i + 1) m)
       (rw (next s i) (binary-walk s (i + 1) m)))
@@ -141,7 +141,7 @@ fine-taken l n t k h =
     by-kind (l .kind)
     (λ e. let f = text-laws.row-fine l n t k (sym (text-check l e n t) ∙ h) in rw (text-taken l e t, f .scanned) (sym (f .takes)))
     (λ e.
-    let told = then-told (binary_file.fineRow (binary.rowCheck l n (take (binary.rowSize l) t)) n) (says (binary.rowSize l)) k (sym (binary-check l e n t) ∙ h) in
+    let told = then-told (binary.checkRow l n (take (binary.rowSize l) t)) (says (binary.rowSize l)) k (sym (binary-check l e n t) ∙ h) in
     binary-taken l e t ∙ cc (told .1))
 
 pub taken-within : (l : Layout) (t : List ℕ) → HasRow l t → takenHere l t ≤ length t

@@ -10,7 +10,7 @@ use Rattle.model.specs.declared.Row.{Row}
 use Rattle.model.specs.declared.Refusal.{Refusal}
 use Rattle.ascii_row.specs.Rows as ascii
 use Rattle.binary_row.specs.Rows as binary
-use Rattle.binary_file.specs.Files.{fineRow, checkLength}
+use Rattle.binary_file.specs.Files.{checkLength}
 use Rattle.ascii_file.specs.Files.{scanRow, lineTaken, firstLine, afterRows, checkRow, checkEnd}
 use Rattle.row_bytes.specs.Rows.{byKind}
 
@@ -37,7 +37,7 @@ restOf l s i = byKind (l .kind) (afterRows i s) (drop (i * binary.rowSize l) s)
 -- row n of a binary kind, with which t begins, is fine
 abbrev pub fineHere : Layout → ℕ → List ℕ → Said Refusal ℕ
 fineHere l n t = do
-  fineRow (binary.rowCheck l n (take (binary.rowSize l) t)) n
+  binary.checkRow l n (take (binary.rowSize l) t)
   says (binary.rowSize l)
 
 -- row n, with which t begins, is fine: how many bytes it takes

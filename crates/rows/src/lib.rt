@@ -95,11 +95,10 @@ fn check_binary_here(layout: Layout, n: u32, rest: &[u8]) -> Checked
     ensures { λ r. ⌜ r ≡ checkedOf (fineHere layout n (now (rest .entry))) ⌝ }
 {
     let size = binary_row::row_size(layout);
-    let found = binary_row::row_check(layout, n, &rest[..size]);
-    if found != 0 {
-        return Checked::No(binary_file::row_refusal(found, n));
+    match binary_row::check_row(layout, n, &rest[..size]) {
+        Answer::Yes => Checked::Takes(size),
+        Answer::No(refusal) => Checked::No(refusal),
     }
-    Checked::Takes(size)
 }
 
 // Row n, with which `rest` begins: how many bytes it takes, or why it is refused.

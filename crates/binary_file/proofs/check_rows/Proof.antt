@@ -1,13 +1,16 @@
 -- `binary_file::check_rows` meets its contract. The loop's invariant: the rows from i on say what all rows say. The measure is what is left of the rows.
-use mathlib.Core.Path.{_≡_}
+use mathlib.Core.Path.{_≡_, sym, _∙_}
 use Prim.Native.Nat.{_≤_, _*_, _-_, _+_}
 use native.Mathlib.Nat.{sub-zero}
 use native.Mathlib.Omega.{arith}
 use borrow.Author.Needs.{needs}
-use borrow.Author.Tests.{eq-eqb, ne-eqb}
 use lib.ListN.{length}
-use Rattle.ground.specs.Said.{_>>_}
-use Rattle.binary_file.specs.Files.{fineRow, checkRows}
+use Rattle.ground.specs.Said.{Said, _>>_}
+use Rattle.model.specs.declared.Refusal.{Refusal}
+use Rattle.model.specs.Refusals.{answerOf}
+use Rattle.model.proofs.AnswerLaws.{yes-told, no-told}
+use Rattle.binary_row.specs.Rows.{checkRow}
+use Rattle.binary_file.specs.Files.{rowBytes, checkRows}
 use Rattle.binary_file.proofs.Laws.{row-end, row-length, rows-turn}
 use Rattle.binary_file.proofs.check_rows.Statement.{statement}
 use Rattle.binary_file.proofs.check_rows.Tie as tie
@@ -42,38 +45,55 @@ add-to c = omega (arith, room c)
 add-i : tie.Need-add-i Inv-loop μ-loop
 add-i c = search needs
 
-sub-row-check : tie.Need-sub-row-check Inv-loop μ-loop
-sub-row-check c = search needs
+sub-check-row : tie.Need-sub-check-row Inv-loop μ-loop
+sub-check-row c = search needs
 
-part-row-check-start : tie.Need-part-row-check-start Inv-loop μ-loop
-part-row-check-start c = search needs
+part-check-row-start : tie.Need-part-check-row-start Inv-loop μ-loop
+part-check-row-start c = search needs
 
-part-row-check-end : tie.Need-part-row-check-end Inv-loop μ-loop
-part-row-check-end c = room c
+part-check-row-end : tie.Need-part-check-row-end Inv-loop μ-loop
+part-check-row-end c = room c
 
-row-check-requires : tie.Need-row-check-requires Inv-loop μ-loop
-row-check-requires c κs =
+check-row-requires : tie.Need-check-row-requires Inv-loop μ-loop
+check-row-requires c κs =
     let s = c .before .before .before .before .before in
     (s .pre .0, rw (c .before .before .before .row-size .ensures) (row-length (s .args .layout) (s .args .«data» .now) (c .before .before .loop .i) (s .pre .1) (omega arith)))
 
-row-refusal-requires : tie.Need-row-refusal-requires Inv-loop μ-loop
-row-refusal-requires c κs = search needs
+-- what row i says
+abbrev here : tie.After-check-row Inv-loop μ-loop → Said Refusal (Unit {0})
+here c =
+    let p = c .before .before .before in
+    let a = p .before .before .before .args in
+    checkRow (a .layout) (p .loop .i + 1) (rowBytes (a .layout) (p .loop .i) (a .«data» .now))
 
--- what row i says, and then what the rows after it say
-step : (c : tie.After-row-check Inv-loop μ-loop) → let p = c .before .before .before in let a = p .before .before .before .args in (fineRow (c .row-check .result) (p .loop .i + 1) >> checkRows (a .layout) (a .«data» .now) (p .loop .i + 1) (a .layout .rows - (p .loop .i + 1))) ≡ checkRows (a .layout) (a .«data» .now) 0 (a .layout .rows)
+answered : (c : tie.After-check-row Inv-loop μ-loop) → answerOf (here c) ≡ c .check-row .result
+answered c = sym (c .check-row .ensures ∙ rw (c .before .before .before .before .row-size .ensures))
+
+-- and then what the rows after it say
+step : (c : tie.After-check-row Inv-loop μ-loop) → let p = c .before .before .before in let a = p .before .before .before .args in
+    (here c >> checkRows (a .layout) (a .«data» .now) (p .loop .i + 1) (a .layout .rows - (p .loop .i + 1))) ≡ checkRows (a .layout) (a .«data» .now) 0 (a .layout .rows)
 step c =
     let p = c .before .before .before in
     let a = p .before .before .before .args in
-    rw (c .row-check .ensures, p .before .row-size .ensures, ← rows-turn (a .layout) (a .«data» .now) (p .loop .i) (a .layout .rows) (omega arith)) (p .loop .inv .1)
+    rw (← rows-turn (a .layout) (a .«data» .now) (p .loop .i) (a .layout .rows) (omega arith)) (p .loop .inv .1)
+
+enum-known-refusal : tie.Need-enum-known-refusal Inv-loop μ-loop
+enum-known-refusal c = search needs
 
 returns : tie.Need-returns Inv-loop μ-loop
-returns c = rw (c .row-refusal .ensures, ← step (c .before .before), ne-eqb (c .before .before .row-check .result) 0 (c .before .if1 .taken))
+returns c =
+    let k = c .before .before .before in
+    let refusal = c .before .refusal .given in
+    rw (← step k, no-told (here k) (refusal .0 .0) (answered k ∙ refusal .1))
+
+enum-told : tie.Need-enum-told Inv-loop μ-loop
+enum-told c = search needs
 
 loop-less : tie.Need-loop-less Inv-loop μ-loop
 loop-less c = search needs
 
 loop-again : tie.Need-loop-again Inv-loop μ-loop
-loop-again c = (omega arith, rw (eq-eqb (c .before .row-check .result) 0 (c .if1 .left)) at (step (c .before)))
+loop-again c = let k = c .before .before in (omega arith, rw (yes-told (here k) (answered k ∙ c .enum-told .given .1)) at (step k))
 
 returns-2 : tie.Need-returns-2 Inv-loop μ-loop
 unfolding checkRows
@@ -93,12 +113,13 @@ check-rows-spec =
     mul-from
     add-to
     add-i
-    sub-row-check
-    part-row-check-start
-    part-row-check-end
-    row-check-requires
-    row-refusal-requires
+    sub-check-row
+    part-check-row-start
+    part-check-row-end
+    check-row-requires
+    enum-known-refusal
     returns
+    enum-told
     loop-less
     loop-again
     returns-2)

@@ -1,5 +1,9 @@
 -- `rows::check_binary_here` meets its contract: what the row's check found.
-use borrow.Author.Tests.{eq-eqb, ne-eqb}
+use Rattle.binary_row.specs.Rows.{rowSize, checkRow}
+use Rattle.model.specs.Refusals.{answerOf}
+use Rattle.model.specs.declared.Refusal.{Refusal}
+use Rattle.ground.specs.Said.{Said}
+use Rattle.model.proofs.AnswerLaws.{yes-told, no-told}
 use lib.Seq.{length-take-le}
 use lib.ListN.{length, take}
 use mathlib.Core.Path.{_≡_, sym, _∙_}
@@ -14,28 +18,44 @@ row-size-requires c κs = search needs
 front : (c : tie.After-row-size) → length (take (c .row-size .result) (c .before .before .args .rest .now)) ≡ c .row-size .result
 front c = length-take-le _ _ (rw (c .row-size .ensures) (c .before .before .pre .1))
 
-slice-aggregate-row-check : tie.Need-slice-aggregate-row-check
-slice-aggregate-row-check c = sym (front (c .before))
+slice-aggregate-check-row : tie.Need-slice-aggregate-check-row
+slice-aggregate-check-row c = sym (front (c .before))
 
-row-check-requires : tie.Need-row-check-requires
-row-check-requires c κs = (c .before .before .before .pre .0, front (c .before) ∙ c .before .row-size .ensures)
+check-row-requires : tie.Need-check-row-requires
+check-row-requires c κs = (c .before .before .before .pre .0, front (c .before) ∙ c .before .row-size .ensures)
 
-row-refusal-requires : tie.Need-row-refusal-requires
-row-refusal-requires c κs = search needs
+enum-told : tie.Need-enum-told
+enum-told c = search needs
+
+enum-known-refusal : tie.Need-enum-known-refusal
+enum-known-refusal c = search needs
+
+-- what the row says
+abbrev here : tie.After-check-row → Said Refusal (Unit {0})
+here c = let a = c .before .before .before .before .args in checkRow (a .layout) (a .n) (take (rowSize (a .layout)) (a .rest .now))
+
+answered : (c : tie.After-check-row) → answerOf (here c) ≡ c .check-row .result
+answered c = sym (c .check-row .ensures ∙ rw (c .before .before .row-size .ensures))
 
 returns : tie.Need-returns
-returns c = rw (c .row-refusal .ensures, ← c .before .before .before .before .row-size .ensures, ← c .before .before .row-check .ensures, ne-eqb _ 0 (c .before .if1 .taken))
+returns c =
+    let k = c .before .before in
+    rw (yes-told (here k) (answered k ∙ c .enum-told .given .1), ← k .before .before .row-size .ensures)
 
 returns-2 : tie.Need-returns-2
-returns-2 c = rw (← c .before .before .before .row-size .ensures, ← c .before .row-check .ensures, eq-eqb _ 0 (c .if1 .left))
+returns-2 c =
+    let k = c .before .before .before in
+    let refusal = c .before .refusal .given in
+    rw (no-told (here k) (refusal .0 .0) (answered k ∙ refusal .1))
 
 pub check-binary-here-spec : {M : Type 1} → statement M
 check-binary-here-spec =
     tie.close
     (tie.spec
     row-size-requires
-    slice-aggregate-row-check
-    row-check-requires
-    row-refusal-requires
+    slice-aggregate-check-row
+    check-row-requires
+    enum-told
+    enum-known-refusal
     returns
     returns-2)

@@ -1,14 +1,14 @@
--- `binary_row::row_check` meets its contract: each return is the test that led to it.
+-- `binary_row::check_row` meets its contract: each return is the test that led to it.
 use mathlib.Core.Path.{_≡_, _∙_}
 use mathlib.Core.Bool.{true}
 use lib.Dec.{eqb}
 use native.Mathlib.Omega.{arith}
 use borrow.Author.Needs.{needs}
 use borrow.Author.Tests.{eq-eqb, ne-eqb, not-true, not-false}
-use Rattle.binary_row.specs.Rows.{paddingFree, numberOfRow, wordsPart, rowCheck}
+use Rattle.binary_row.specs.Rows.{paddingFree, numberOfRow, wordsPart, checkRow}
 use Rattle.binary_row.proofs.SizeLaws.{sizes, words-length}
-use Rattle.binary_row.proofs.row_check.Statement.{statement}
-use Rattle.binary_row.proofs.row_check.Tie as tie
+use Rattle.binary_row.proofs.check_row.Statement.{statement}
+use Rattle.binary_row.proofs.check_row.Tie as tie
 
 cast-d : tie.Need-cast-d
 cast-d c = search needs
@@ -28,9 +28,14 @@ part-word-of-end c = omega (arith, sizes (c .before .before .before .args .layou
 word-of-requires : tie.Need-word-of-requires
 word-of-requires c κs = search needs
 
+refused-requires : tie.Need-refused-requires
+refused-requires c κs = search needs
+
 returns : tie.Need-returns
-unfolding rowCheck
-returns c = rw (← c .before .word-of .ensures, ne-eqb (c .before .word-of .result) (c .before .before .before .before .before .before .args .n) (c .if1 .taken))
+unfolding checkRow
+returns c =
+    let w = c .before .before in
+    rw (c .refused .ensures, ← w .word-of .ensures, ne-eqb (w .word-of .result) (w .before .before .before .before .before .args .n) (c .before .if1 .taken))
 
 sub-padding-free : tie.Need-sub-padding-free
 sub-padding-free c = omega (arith, sizes (c .before .before .before .before .before .before .args .layout))
@@ -54,16 +59,21 @@ number c = rw (← c .before .word-of .ensures, eq-eqb (c .before .word-of .resu
 free : (c : tie.After-padding-free) → let s = c .before .before .before .before .before .before .before .before .args in c .padding-free .result ≡ paddingFree (s .layout .statuses) (wordsPart (s .layout) (s .bytes .now))
 free c = c .padding-free .ensures ∙ rw (c .before .before .before .before .before .samples-end .ensures, c .before .before .before .before .before .before .before .before .pre .1)
 
+refused-requires-2 : tie.Need-refused-requires-2
+refused-requires-2 c κs = search needs
+
 returns-2 : tie.Need-returns-2
-unfolding rowCheck
-returns-2 c = rw (number (c .before .before .before), ← free (c .before), not-true (c .before .padding-free .result) (c .if2 .taken))
+unfolding checkRow
+returns-2 c =
+    let p = c .before .before in
+    rw (c .refused2 .ensures, number (p .before .before), ← free p, not-true (p .padding-free .result) (c .before .if2 .taken))
 
 returns-3 : tie.Need-returns-3
-unfolding rowCheck
+unfolding checkRow
 returns-3 c = rw (number (c .before .before .before), ← free (c .before), not-false (c .before .padding-free .result) (c .if2 .left))
 
-pub row-check-spec : {M : Type 1} → statement M
-row-check-spec =
+pub check-row-spec : {M : Type 1} → statement M
+check-row-spec =
     tie.close
     (tie.spec
     cast-d
@@ -72,10 +82,12 @@ row-check-spec =
     part-word-of-start
     part-word-of-end
     word-of-requires
+    refused-requires
     returns
     sub-padding-free
     part-padding-free-start
     part-padding-free-end
     padding-free-requires
+    refused-requires-2
     returns-2
     returns-3)

@@ -2,11 +2,12 @@
 // put_reason gives, for any number and any room, exactly what the definition of specs/ says; a refusal changes no byte.
 use model::Written;
 ghost use mathlib.Core.Path.{_≡_};
-ghost use Prim.Native.Nat.{_≤_};
+ghost use Prim.Native.Nat.{_^_, _≤_, _<_};
 ghost use lib.ListN.{length};
 ghost use Rattle.ground.specs.Said.{over};
 ghost use Rattle.model.specs.Refusals.{writtenOf, FewBytes};
 ghost use Rattle.reasons.specs.Reasons.{textSaid, reasonSaid};
+ghost use Rattle.reasons.specs.Inner.{textOf, allTexts, startOf};
 
 // The bytes fill the slice.
 fn put_all(text: &[u8], d: &mut [u8])
@@ -22,7 +23,7 @@ fn put_all(text: &[u8], d: &mut [u8])
 
 // The text is written at the front of `out`, or nothing is.
 fn put_text(text: &[u8], out: &mut [u8]) -> Written
-    requires { ⌜ length (now text) ≤ 80 ⌝ }
+    requires { ⌜ length (now text) < 2 ^ 32 ⌝ }
     ensures { λ r. ⌜ (r ≡ writtenOf (textSaid (now (text .entry)) (length (now (out .entry))))) × (FewBytes r) ⌝ }
     ensures { λ _. ⌜ now (out .exit) ≡ over (textSaid (now (text .entry)) (length (now (out .entry)))) (now (out .entry)) ⌝ }
 {
@@ -34,32 +35,72 @@ fn put_text(text: &[u8], out: &mut [u8]) -> Written
     Written::Bytes(size)
 }
 
+// Where the text of number i + 1 begins in the table, and the text of number i ends.
+fn start_of(i: usize) -> usize
+    requires { ⌜ i ≤ 17 ⌝ }
+    ensures { λ r. ⌜ r ≡ startOf i ⌝ }
+{
+    let starts = [
+        0,
+        44,
+        81,
+        132,
+        154,
+        185,
+        233,
+        288,
+        315,
+        340,
+        365,
+        389,
+        423,
+        443,
+        469,
+        480,
+        511,
+        518,
+    ];
+    starts[i]
+}
+
+// Text i of the table, which has all texts one after the other, is written at the front of `out`, or nothing is.
+fn put_from(table: &[u8], i: usize, out: &mut [u8]) -> Written
+    requires { ⌜ (now table ≡ allTexts) × (i < 17) ⌝ }
+    ensures { λ r. ⌜ (r ≡ writtenOf (textSaid (textOf i) (length (now (out .entry))))) × (FewBytes r) ⌝ }
+    ensures { λ _. ⌜ now (out .exit) ≡ over (textSaid (textOf i) (length (now (out .entry)))) (now (out .entry)) ⌝ }
+{
+    let from = start_of(i);
+    let to = start_of(i + 1);
+    put_text(&table[from..to], out)
+}
+
 // The meaning of a refusal's number is written at the front of `out`, or nothing is.
 pub fn put_reason(number: u32, out: &mut [u8]) -> Written
     ensures { λ r. ⌜ (r ≡ writtenOf (reasonSaid number (length (now (out .entry))))) × (FewBytes r) ⌝ }
     ensures { λ _. ⌜ now (out .exit) ≡ over (reasonSaid number (length (now (out .entry)))) (now (out .entry)) ⌝ }
 {
     match number {
-        1 => put_text(b"the configuration has more than 65,536 bytes", out),
-        2 => put_text(b"the file ends before or inside a line", out),
-        3 => put_text(b"a byte outside 32 to 126 before the end of the line", out),
-        4 => put_text(b"wrong number of fields", out),
-        5 => put_text(b"wrong length or form of a field", out),
-        6 => put_text(b"a number, date, kind or code that is not allowed", out),
-        7 => put_text(
-            b"a total, index, last row or maximum that does not agree",
+        1..=17 => put_from(
+            b"the configuration has more than 65,536 bytes\
+            the file ends before or inside a line\
+            a byte outside 32 to 126 before the end of the line\
+            wrong number of fields\
+            wrong length or form of a field\
+            a number, date, kind or code that is not allowed\
+            a total, index, last row or maximum that does not agree\
+            an edition that is not 2013\
+            bytes after the last line\
+            sizes or kind not allowed\
+            wrong length of the file\
+            a row number that is not the row's\
+            a padding bit is set\
+            a text row or field is bad\
+            no such row\
+            a number does not fit its field\
+            no room",
+            number as usize - 1,
             out,
         ),
-        8 => put_text(b"an edition that is not 2013", out),
-        9 => put_text(b"bytes after the last line", out),
-        10 => put_text(b"sizes or kind not allowed", out),
-        11 => put_text(b"wrong length of the file", out),
-        12 => put_text(b"a row number that is not the row's", out),
-        13 => put_text(b"a padding bit is set", out),
-        14 => put_text(b"a text row or field is bad", out),
-        15 => put_text(b"no such row", out),
-        16 => put_text(b"a number does not fit its field", out),
-        17 => put_text(b"no room", out),
         _ => Written::No(model::refused(10, 0, 0)),
     }
 }

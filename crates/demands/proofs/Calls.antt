@@ -43,13 +43,13 @@ use Rattle.data.specs.Files.{fileFine, rowAt, hasRow, misfitOf, checkFile, rowA
 use Rattle.data.proofs.Laws.{row-told, writable}
 use Rattle.change.specs.Change.{fitRows, changed, bytesNeeded, changeSaid}
 use Rattle.change.proofs.WriteLaws.{change-needs, ready}
-use Rattle.places.specs.Rows.{placesOf, rowPlaces, unfit, rowOf}
-use Rattle.places.specs.Configs.{configPlaces}
-use Rattle.places.proofs.RowLaws.{places-back}
+use Rattle.row_places.specs.Rows.{placesOf, rowPlaces, unfit, rowOfPlaces}
+use Rattle.config_places.specs.Configs.{configPlaces}
+use Rattle.config_places.proofs.ConfigLaws.{config-places}
+use Rattle.row_places.proofs.RowLaws.{row-places, places-back}
 use Rattle.reasons.specs.Reasons.{reasonOf, textSaid, reasonSaid}
 use Rattle.zagalume.specs.declared.zl_answer.{«zl_answer»}
 use Rattle.zagalume.specs.Calls.{told, toldWritten, toldShown, kindSaid, layoutBy, accepted, configSaid, rowSaid, placed, configCall, checkCall, rowIn, rowCall, rowAsked, writeIn, writeCall, lengthIn, lengthCall, changeIn, changeCall}
-use Rattle.zagalume.proofs.CallLaws.{config-places, row-places}
 use Rattle.demands.proofs.Placed.{Placed, PlacedTo, sizes-or-kind, no-row, sample-unfit, no-room, config-placed, file-placed, fits-placed}
 
 module _ {A : Type 0} where
@@ -276,7 +276,7 @@ unfolding rowAsked
 asked-only l n zs =
     only-then Placed (must (isSized l) (refused 10 0 0)) _ (only-must Placed (isSized l) (refused 10 0 0) (λ e. sizes-or-kind)) (λ e.
     only-then Placed (must (leb (placesOf l) (length zs)) (refused 10 0 0)) _ (only-must Placed (leb (placesOf l) (length zs)) (refused 10 0 0) (λ f. sizes-or-kind)) (λ f.
-    unfit-only l n (2 + unfit l zs) (eqb (unfit l zs) (placesOf l)) (says (rowOf l zs)) (omega arith) tt))
+    unfit-only l n (2 + unfit l zs) (eqb (unfit l zs) (placesOf l)) (says (rowOfPlaces l zs)) (omega arith) tt))
 
 kind-only : (k : KindNo) → RefusesOnly Placed (kindSaid k)
 kind-only (number.Is k) = tt
@@ -396,11 +396,11 @@ all-placed = (
 pub shown-as-given : (l : Layout) (n : ℕ) (zs : List ℤ) (r : Row) → rowAsked l n zs ≡ says r → rowPlaces l r ≡ take (placesOf l) zs
 unfolding rowAsked
 shown-as-given l n zs r e =
-    let fits = must (eqb (unfit l zs) (placesOf l)) (refused 16 n (2 + unfit l zs)) >> says (rowOf l zs) in
+    let fits = must (eqb (unfit l zs) (placesOf l)) (refused 16 n (2 + unfit l zs)) >> says (rowOfPlaces l zs) in
     let there = must (hasRow l n) (refused 15 0 0) >> fits in
     let a = must-told (isSized l) (refused 10 0 0) (must (leb (placesOf l) (length zs)) (refused 10 0 0) >> there) r e in
     let b = must-told (leb (placesOf l) (length zs)) (refused 10 0 0) there r (a .1) in
     let c = must-told (hasRow l n) (refused 15 0 0) fits r (b .1) in
-    let d = must-told (eqb (unfit l zs) (placesOf l)) (refused 16 n (2 + unfit l zs)) (says (rowOf l zs)) r (c .1) in
-    let q : r ≡ rowOf l zs = cc (d .1) in
+    let d = must-told (eqb (unfit l zs) (placesOf l)) (refused 16 n (2 + unfit l zs)) (says (rowOfPlaces l zs)) r (c .1) in
+    let q : r ≡ rowOfPlaces l zs = cc (d .1) in
     rw q (places-back l zs (eqb-true (unfit l zs) (placesOf l) (d .0)) (leb-true (placesOf l) (length zs) (b .0)))

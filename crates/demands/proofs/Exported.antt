@@ -30,8 +30,8 @@ use Rattle.config.specs.declared.ConfigAnswer.{ConfigAnswer}
 use Rattle.config.specs.Config.{readConfig}
 use Rattle.data.specs.declared.RowAnswer.{RowAnswer}
 use Rattle.data.specs.Files.{rowAt, checkFile, rowAnswer, showRow}
-use Rattle.places.specs.Rows.{placesOf, rowPlaces}
-use Rattle.places.specs.Configs.{configPlaces}
+use Rattle.row_places.specs.Rows.{placesOf, rowPlaces}
+use Rattle.config_places.specs.Configs.{configPlaces}
 use Rattle.zagalume.specs.Calls.{kindSaid, layoutBy, accepted, configSaid, rowSaid, placed, configCall, checkCall, rowIn, rowCall}
 use Rattle.paper.specs.Configuration.{Configuration}
 use Rattle.paper.specs.Data.{DataFile}

@@ -1,19 +1,16 @@
 -- Laws of what the exported calls show and write.
 --     counted-written, counted-needed     the exported answer of so many bytes is that of what was said
---     config-places, row-places     how many places a configuration, and a row, has
 --     shown-sized                   a row is shown of a layout within the sizes alone
 --     written-few                   a row that is written is short
 -- Assumes nothing.
 use mathlib.Core.Path.{_≡_, refl, sym, ap, _∙_}
-use mathlib.Core.Bool.{true, false}
+use mathlib.Core.Bool.{true}
 use mathlib.Core.List.{List}
 use Prim.Native.Nat.{ℕ, _<_, _≤_, _^_}
 use native.Mathlib.Omega.{arith}
-use lib.IntN.{ℤ, pos}
-use lib.ListN.{length, getD, length-append}
+use lib.IntN.{pos}
+use lib.ListN.{length, getD}
 use Rattle.ground.specs.Said.{Said, says, refuses}
-use Rattle.ground.specs.Tables.{tab}
-use Rattle.ground.proofs.Tables.{length-tab}
 use Rattle.ground.proofs.Cases.{on-test}
 use Rattle.model.specs.declared.Answer.the-variants as answer
 use Rattle.model.specs.declared.Kind.the-variants.{Ascii}
@@ -28,7 +25,6 @@ use Rattle.model.specs.Layouts.{isSized, Sized}
 use Rattle.model.proofs.AnswerLaws.{written-told}
 use Rattle.model.proofs.LayoutLaws.{sized}
 use Rattle.model.proofs.FitLaws.{misfit-all}
-use Rattle.config_rules.specs.declared.Config.{Config}
 use Rattle.binary_row.specs.Rows.{rowSize}
 use Rattle.binary_row.proofs.SizeLaws.{size-le}
 use Rattle.ascii_plain.specs.Rows.{textLength}
@@ -38,8 +34,6 @@ use Rattle.row_bytes.specs.Inner.{lengthOf}
 use Rattle.row_bytes.proofs.KindLaws.{text-kind, binary-kind, by-kind}
 use Rattle.row_bytes.proofs.RowLaws.{length-bytes}
 use Rattle.data.proofs.Laws.{writable}
-use Rattle.places.specs.Rows.{placesOf, statusPlace, rowPlaces}
-use Rattle.places.specs.Configs.{configPlaces}
 use Rattle.zagalume.specs.Calls.{told, toldWritten}
 use Rattle.zagalume.specs.Inner.{counted}
 
@@ -50,17 +44,6 @@ counted-written (refuses r) = refl
 pub counted-needed : (x : Said Refusal ℕ) → counted (neededOf x) ≡ told x
 counted-needed (says m) = refl
 counted-needed (refuses r) = refl
-
-pub config-places : (c : Config) → length (configPlaces c) ≡ 34
-unfolding configPlaces
-config-places c = refl
-
-pub row-places : (l : Layout) (r : Row) → length (rowPlaces l r) ≡ placesOf l
-unfolding rowPlaces
-row-places l r =
-    let z : ℕ → ℤ = λ i. getD (r .samples) i (pos 0) in
-    let s : ℕ → ℤ = λ i. statusPlace (getD (r .statuses) i false) in
-    omega (arith, length-append (tab z (l .analogs)) (tab s (l .statuses)), length-tab z (l .analogs), length-tab s (l .statuses))
 
 pub shown-sized : (l : Layout) (s : List ℕ) (n : ℕ) → showRow l s n .answer ≡ answer.Yes → Sized l
 unfolding showRow

@@ -22,8 +22,8 @@ use Rattle.config.specs.Config.{readConfig}
 use Rattle.data.specs.declared.RowAnswer.{RowAnswer}
 use Rattle.data.specs.Files.{checkFile, showRow, hasRow, writeSaid}
 use Rattle.change.specs.Change.{bytesNeeded, changeSaid}
-use Rattle.places.specs.Rows.{placesOf, rowPlaces, unfit, rowOf}
-use Rattle.places.specs.Configs.{configPlaces}
+use Rattle.row_places.specs.Rows.{placesOf, rowPlaces, unfit, rowOfPlaces}
+use Rattle.config_places.specs.Configs.{configPlaces}
 use Rattle.zagalume.specs.declared.zl_answer.{«zl_answer»}
 
 -- yes, with so many bytes
@@ -113,7 +113,7 @@ rowAsked l n zs = do
   must (leb (placesOf l) (length zs)) (refused 10 0 0)
   must (hasRow l n) (refused 15 0 0)
   must (eqb (unfit l zs) (placesOf l)) (refused 16 n (2 + unfit l zs))
-  says (rowOf l zs)
+  says (rowOfPlaces l zs)
 
 -- the bytes that row n is written in, or the refusal; no room last of all
 unfoldable pub writeIn : Layout → ℕ → List ℤ → ℕ → Said Refusal (List ℕ)

@@ -13,8 +13,8 @@ ghost use lib.ListN.{length};
 ghost use Rattle.ground.specs.Said.{over};
 ghost use Rattle.model.specs.Layouts.{Sized};
 ghost use Rattle.model.specs.Refusals.{FewBytes};
-ghost use Rattle.places.specs.Rows.{placesOf, rowPlaces};
-ghost use Rattle.places.specs.Configs.{configPlaces};
+ghost use Rattle.row_places.specs.Rows.{placesOf, rowPlaces};
+ghost use Rattle.config_places.specs.Configs.{configPlaces};
 ghost use Rattle.reasons.specs.Reasons.{reasonSaid};
 ghost use Rattle.zagalume.specs.Calls.{yes, no, told, toldWritten, toldShown, layoutBy, placed, configCall, checkCall, rowIn, rowCall, writeIn, writeCall, lengthIn, lengthCall, changeIn, changeCall};
 ghost use Rattle.zagalume.specs.Inner.{plainSaid, counted};
@@ -73,7 +73,7 @@ fn show_config(config: Config, shown: &mut [i64]) -> zl_answer
     if shown.len() < CONFIG {
         return no(model::refused(17, 0, 0));
     }
-    places::put_config(config, &mut shown[..CONFIG]);
+    config_places::put_config(config, &mut shown[..CONFIG]);
     yes(0)
 }
 
@@ -118,11 +118,11 @@ fn show_places(layout: Layout, row: Row, shown: &mut [i64]) -> zl_answer
     ensures { λ r. ⌜ r ≡ toldShown (placed (placesOf layout) (rowPlaces layout row) (length (now (shown .entry)))) ⌝ }
     ensures { λ _. ⌜ now (shown .exit) ≡ over (placed (placesOf layout) (rowPlaces layout row) (length (now (shown .entry)))) (now (shown .entry)) ⌝ }
 {
-    let count = places::places_of(layout);
+    let count = row_places::places_of(layout);
     if shown.len() < count {
         return no(model::refused(17, 0, 0));
     }
-    places::put_row(layout, row, &mut shown[..count]);
+    row_places::put_row(layout, row, &mut shown[..count]);
     yes(0)
 }
 
@@ -178,18 +178,18 @@ fn write_row(layout: Layout, n: u32, zs: &[i64], out: &mut [u8]) -> zl_answer
     if !layout.is_sized() {
         return no(model::refused(10, 0, 0));
     }
-    let count = places::places_of(layout);
+    let count = row_places::places_of(layout);
     if zs.len() < count {
         return no(model::refused(10, 0, 0));
     }
     if !data::has_row(layout, n) {
         return no(model::refused(15, 0, 0));
     }
-    let bad = places::first_unfit(layout, zs);
+    let bad = row_places::first_unfit(layout, zs);
     if bad != count {
         return no(model::refused(16, n, 2 + bad as u32));
     }
-    counted(data::write_row(layout, n, places::row_of(layout, zs), out))
+    counted(data::write_row(layout, n, row_places::row_of_places(layout, zs), out))
 }
 
 // The places of row n, written at the front of `out` as bytes of the kind, or nothing is.

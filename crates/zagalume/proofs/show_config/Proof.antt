@@ -1,5 +1,5 @@
 -- `zagalume::show_config` meets its contract: 34 places are filled where there is room for them.
-use Rattle.zagalume.proofs.CallLaws.{config-places}
+use Rattle.config_places.proofs.ConfigLaws.{config-places}
 use native.Mathlib.Omega.{arith}
 use borrow.Author.Tests.{le-leb, lt-leb}
 use lib.ListN.{length}

@@ -1,6 +1,6 @@
 -- `zagalume::show_places` meets its contract: the places of the row are filled where there is room for them.
-use Rattle.zagalume.proofs.CallLaws.{row-places}
-use Rattle.places.specs.Rows.{placesOf}
+use Rattle.row_places.proofs.RowLaws.{row-places}
+use Rattle.row_places.specs.Rows.{placesOf}
 use borrow.Author.Tests.{le-leb, lt-leb}
 use lib.ListN.{length}
 use lib.Seq.{length-take-le}

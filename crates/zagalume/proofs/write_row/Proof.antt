@@ -1,8 +1,8 @@
 -- `zagalume::write_row` meets its contract: each return is the test that led to it, and a row whose places fit is written by the call below.
 use Rattle.zagalume.specs.Calls.{rowAsked, writeIn}
 use Rattle.zagalume.proofs.CallLaws.{counted-written, written-few}
-use Rattle.places.specs.Rows.{placesOf, unfit, rowOf}
-use Rattle.places.proofs.UnfitLaws.{unfit-le, time-small}
+use Rattle.row_places.specs.Rows.{placesOf, unfit, rowOfPlaces}
+use Rattle.row_places.proofs.UnfitLaws.{unfit-le, time-small}
 use Rattle.data.specs.Files.{hasRow}
 use Rattle.model.specs.Layouts.{isSized, Sized}
 use Rattle.model.proofs.LayoutLaws.{sized}
@@ -109,22 +109,22 @@ returns-4 : tie.Need-returns-4
 unfolding rowAsked writeIn
 returns-4 c = (rw (c .no4 .ensures, c .before .refused4 .ensures, ok (c .before .before .before .before .before .before .before .before), enough (c .before .before .before .before .before .before), there (c .before .before .before .before), wrong (c .before .before), c .before .before .before .first-unfit .ensures), rw (ok (c .before .before .before .before .before .before .before .before), enough (c .before .before .before .before .before .before), there (c .before .before .before .before), wrong (c .before .before)))
 
-row-of-requires : tie.Need-row-of-requires
-row-of-requires c κs = (fit (c .before .before .before .before .before .before), within (c .before .before .before .before), all c)
+row-of-places-requires : tie.Need-row-of-places-requires
+row-of-places-requires c κs = (fit (c .before .before .before .before .before .before), within (c .before .before .before .before), all c)
 
 write-row-requires : tie.Need-write-row-requires
 write-row-requires c κs = search needs
 
 counted-requires : tie.Need-counted-requires
-unfolding rowOf
-counted-requires c κs = let t : c .before .before .before .before .row-of .result .time < 2 ^ 32 = rw (c .before .before .before .before .row-of .ensures) (time-small (c .before .before .before .before .before .before .before .before .before .before .before .before .before .before .args .layout) (c .before .before .before .before .before .before .before .before .before .before .before .before .before .before .args .zs .now) (all (c .before .before .before .before .before))) in written-few (c .before .before .before .before .before .before .before .before .before .before .before .before .before .before .args .layout) (c .before .before .before .before .before .before .before .before .before .before .before .before .before .before .args .n) (c .before .before .before .before .row-of .result) (length (c .before .before .before .before .before .before .before .before .before .before .before .before .before .before .args .out .now)) (c .before .before .write-row .result) (omega arith) t (c .before .before .write-row .ensures .0)
+unfolding rowOfPlaces
+counted-requires c κs = let t : c .before .before .before .before .row-of-places .result .time < 2 ^ 32 = rw (c .before .before .before .before .row-of-places .ensures) (time-small (c .before .before .before .before .before .before .before .before .before .before .before .before .before .before .args .layout) (c .before .before .before .before .before .before .before .before .before .before .before .before .before .before .args .zs .now) (all (c .before .before .before .before .before))) in written-few (c .before .before .before .before .before .before .before .before .before .before .before .before .before .before .args .layout) (c .before .before .before .before .before .before .before .before .before .before .before .before .before .before .args .n) (c .before .before .before .before .row-of-places .result) (length (c .before .before .before .before .before .before .before .before .before .before .before .before .before .before .args .out .now)) (c .before .before .write-row .result) (omega arith) t (c .before .before .write-row .ensures .0)
 
 same-length : tie.Need-same-length
 same-length c = search needs
 
 returns-5 : tie.Need-returns-5
 unfolding rowAsked writeIn
-returns-5 c = (rw (c .counted .ensures, c .before .before .before .write-row .ensures .0, counted-written, c .before .before .before .before .before .row-of .ensures, ok (c .before .before .before .before .before .before .before .before .before .before .before .before), enough (c .before .before .before .before .before .before .before .before .before .before), there (c .before .before .before .before .before .before .before .before), right (c .before .before .before .before .before .before)), rw (ok (c .before .before .before .before .before .before .before .before .before .before .before .before), enough (c .before .before .before .before .before .before .before .before .before .before), there (c .before .before .before .before .before .before .before .before), right (c .before .before .before .before .before .before)) (rw (c .before .before .before .before .before .row-of .ensures) at (c .before .before .before .write-row .ensures .1)))
+returns-5 c = (rw (c .counted .ensures, c .before .before .before .write-row .ensures .0, counted-written, c .before .before .before .before .before .row-of-places .ensures, ok (c .before .before .before .before .before .before .before .before .before .before .before .before), enough (c .before .before .before .before .before .before .before .before .before .before), there (c .before .before .before .before .before .before .before .before), right (c .before .before .before .before .before .before)), rw (ok (c .before .before .before .before .before .before .before .before .before .before .before .before), enough (c .before .before .before .before .before .before .before .before .before .before), there (c .before .before .before .before .before .before .before .before), right (c .before .before .before .before .before .before)) (rw (c .before .before .before .before .before .row-of-places .ensures) at (c .before .before .before .write-row .ensures .1)))
 
 pub write-row-spec : {M : Type 1} → statement M
 write-row-spec =
@@ -148,7 +148,7 @@ write-row-spec =
     refused-requires-4
     no-requires-4
     returns-4
-    row-of-requires
+    row-of-places-requires
     write-row-requires
     counted-requires
     same-length

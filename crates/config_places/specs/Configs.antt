@@ -1,0 +1,47 @@
+-- What an accepted configuration shows, as places.
+use mathlib.Core.List.{List, [], _∷_, _++_}
+use Prim.Native.Nat.{ℕ}
+use lib.IntN.{ℤ, pos}
+use lib.ListN.{getD}
+use Rattle.ground.specs.Tables.{tab}
+use Rattle.model.specs.Kinds.{numberOf}
+use Rattle.config_rules.specs.declared.Config.{Config}
+use Rattle.config_rules.specs.declared.Moment.{Moment}
+use Rattle.row_places.specs.Rows.{boolPlace}
+
+-- channels, rates and rows
+abbrev pub countPlaces : Config → List ℤ
+countPlaces c = pos (c .layout .analogs) ∷ pos (c .layout .statuses) ∷ pos (c .rates) ∷ pos (c .layout .rows) ∷ []
+
+-- the last rows, 0 where there is none
+abbrev pub lastPlaces : List ℕ → List ℤ
+lastPlaces lasts = tab (λ i. pos (getD lasts i 0)) 8
+
+-- year, month, day, hour, minute, second, nanosecond
+abbrev pub momentPlaces : Moment → List ℤ
+momentPlaces m =
+    pos (m .date .year)
+    ∷ pos (m .date .month)
+    ∷ pos (m .date .day)
+    ∷ pos (m .time .hour)
+    ∷ pos (m .time .minute)
+    ∷ pos (m .time .second)
+    ∷ pos (m .time .nanosecond)
+    ∷ []
+
+-- pre-trigger seconds and nanoseconds, kind, time code, whether the local code is x, local code, quality, leap code
+abbrev pub otherPlaces : Config → List ℤ
+otherPlaces c =
+    c .pretrigger .seconds
+    ∷ pos (c .pretrigger .nanoseconds)
+    ∷ pos (numberOf (c .layout .kind))
+    ∷ c .code
+    ∷ boolPlace (c .x)
+    ∷ c .local
+    ∷ pos (c .quality)
+    ∷ pos (c .leap)
+    ∷ []
+
+-- the 34 places of a configuration
+unfoldable pub configPlaces : Config → List ℤ
+configPlaces c = (countPlaces c ++ lastPlaces (c .lasts)) ++ ((momentPlaces (c .first) ++ momentPlaces (c .trigger)) ++ otherPlaces c)

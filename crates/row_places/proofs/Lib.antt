@@ -1,0 +1,2 @@
+pub mod UnfitLaws
+pub mod RowLaws

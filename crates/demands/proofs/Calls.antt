@@ -48,8 +48,13 @@ use Rattle.config_places.specs.Configs.{configPlaces}
 use Rattle.config_places.proofs.ConfigLaws.{config-places}
 use Rattle.row_places.proofs.RowLaws.{row-places, places-back}
 use Rattle.reasons.specs.Reasons.{reasonOf, textSaid, reasonSaid}
-use Rattle.zagalume.specs.declared.zl_answer.{«zl_answer»}
-use Rattle.zagalume.specs.Calls.{told, toldWritten, toldShown, kindSaid, layoutBy, accepted, configSaid, rowSaid, placed, configCall, checkCall, rowIn, rowCall, rowAsked, writeIn, writeCall, lengthIn, lengthCall, changeIn, changeCall}
+use Rattle.answers.specs.declared.zl_answer.{«zl_answer»}
+use Rattle.answers.specs.Answers.{told, toldWritten, toldShown, kindSaid, layoutBy, accepted, placed}
+use Rattle.calls_config.specs.Calls.{configSaid, configCall}
+use Rattle.calls_data.specs.Calls.{checkCall, rowSaid, rowCall, rowAsked, writeCall}
+use Rattle.calls_data.specs.Inner.{rowIn, writeIn}
+use Rattle.calls_change.specs.Calls.{lengthCall, changeCall}
+use Rattle.calls_change.specs.Inner.{neededIn, changeIn}
 use Rattle.demands.proofs.Placed.{Placed, PlacedTo, sizes-or-kind, no-row, sample-unfit, no-room, config-placed, file-placed, fits-placed}
 
 module _ {A : Type 0} where
@@ -103,7 +108,7 @@ unfolding rowIn
 row-within l s n = bind-within (rowSaid (showRow l s n)) (λ r. placed (placesOf l) (rowPlaces l r)) (λ r. placed-within (placesOf l) (rowPlaces l r) (row-places l r))
 
 row-call-within : (a d rows kind : ℕ) (s : List ℕ) (n : ℕ) → Within (rowCall a d rows kind s n)
-unfolding rowCall
+unfolding rowCall rowIn
 row-call-within a d rows kind s n = bind-within (kindSaid (kindOf kind)) (λ k. rowIn (layoutBy a d rows k) s n) (λ k. row-within (layoutBy a d rows k) s n)
 
 write-call-within : (a d rows kind n : ℕ) (zs : List ℤ) → Within (writeCall a d rows kind n zs)
@@ -149,12 +154,12 @@ config-no (says c) r e = cc
 config-no (refuses q) r e = cc
 
 -- what showing row n says
-abbrev shows : Layout → List ℕ → ℕ → Said Refusal Row
-shows l s n = must (isSized l) (refused 10 0 0) >> (must (hasRow l n) (refused 15 0 0) >> (fileFine l s >> says (rowAt l s (n - 1))))
+abbrev showing : Layout → List ℕ → ℕ → Said Refusal Row
+showing l s n = must (isSized l) (refused 10 0 0) >> (must (hasRow l n) (refused 15 0 0) >> (fileFine l s >> says (rowAt l s (n - 1))))
 
 show-zeros : (l : Layout) (s : List ℕ) (n : ℕ) (r : Refusal) → showRow l s n .answer ≡ No r → showRow l s n .row ≡ zeroRow
 unfolding showRow
-show-zeros l s n r e = rw (row-no (shows l s n) r e)
+show-zeros l s n r e = rw (row-no (showing l s n) r e)
 
 config-zeros : (s : List ℕ) (r : Refusal) → readConfig s .answer ≡ No r → readConfig s .config ≡ noConfig
 unfolding readConfig
@@ -244,7 +249,7 @@ change-only l s k room =
 
 show-only : (l : Layout) (s : List ℕ) (n : ℕ) → RefusesOnly (PlacedTo 16) (rowSaid (showRow l s n))
 unfolding showRow
-show-only l s n = go (shows l s n)
+show-only l s n = go (showing l s n)
     (only-then (PlacedTo 16) (must (isSized l) (refused 10 0 0)) _ (sized-only l) (λ e.
     only-then (PlacedTo 16) (must (hasRow l n) (refused 15 0 0)) _ (only-must (PlacedTo 16) (hasRow l n) (refused 15 0 0) (λ t. (no-row, lit≤ tt))) (λ f.
     only-then (PlacedTo 16) (fileFine l s) (says (rowAt l s (n - 1))) (file-placed l s) (λ g. tt))))
@@ -348,9 +353,9 @@ write-call-only a d rows kind n zs room =
     only-bind Placed (rowAsked l n zs) (λ r. writeSaid l n r room) (asked-only l n zs) (λ r e. write-only l n r room))
 
 length-call-only : (a d rows kind : ℕ) (s : List ℕ) (new : ℕ) → RefusesOnly Placed (lengthCall a d rows kind s new)
-unfolding lengthCall lengthIn
+unfolding lengthCall neededIn
 length-call-only a d rows kind s new =
-    by-number kind (λ k. lengthIn (layoutBy a d rows k) s new) (λ k.
+    by-number kind (λ k. neededIn (layoutBy a d rows k) s new) (λ k.
     by-number new (bytesNeeded (layoutBy a d rows k) s) (λ m.
     only-wider (PlacedTo 16) Placed (bytesNeeded (layoutBy a d rows k) s m) (λ r p. p .0) (needed-only (layoutBy a d rows k) s m)))
 

@@ -32,7 +32,10 @@ use Rattle.data.specs.declared.RowAnswer.{RowAnswer}
 use Rattle.data.specs.Files.{rowAt, checkFile, rowAnswer, showRow}
 use Rattle.row_places.specs.Rows.{placesOf, rowPlaces}
 use Rattle.config_places.specs.Configs.{configPlaces}
-use Rattle.zagalume.specs.Calls.{kindSaid, layoutBy, accepted, configSaid, rowSaid, placed, configCall, checkCall, rowIn, rowCall}
+use Rattle.answers.specs.Answers.{kindSaid, layoutBy, accepted, placed}
+use Rattle.calls_config.specs.Calls.{configSaid, configCall}
+use Rattle.calls_data.specs.Calls.{checkCall, rowSaid, rowCall}
+use Rattle.calls_data.specs.Inner.{rowIn}
 use Rattle.paper.specs.Configuration.{Configuration}
 use Rattle.paper.specs.Data.{DataFile}
 use Rattle.exact_config.proofs.ExactLaws.{config-exactly}

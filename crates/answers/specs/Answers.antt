@@ -1,0 +1,59 @@
+-- What the exported calls share: the answer that a call gives by what it says, and what they take as numbers.
+-- What a call that writes says is its answer (`toldShown`, `toldWritten`), and what the lent buffer then holds (`over`).
+use mathlib.Core.List.{List}
+use Prim.Native.Nat.{ℕ}
+use lib.Dec.{leb}
+use lib.ListN.{length}
+use Rattle.ground.specs.Said.{Said, says, refuses, _>>_, must}
+use Rattle.model.specs.declared.Kind.{Kind}
+use Rattle.model.specs.declared.KindNo.{KindNo}
+use Rattle.model.specs.declared.KindNo.the-variants as number
+use Rattle.model.specs.declared.Layout.{Layout}
+use Rattle.model.specs.declared.Refusal.{Refusal}
+use Rattle.model.specs.declared.Answer.{Answer}
+use Rattle.model.specs.declared.Answer.the-variants as answer
+use Rattle.model.specs.Refusals.{refused}
+use Rattle.answers.specs.declared.zl_answer.{«zl_answer»}
+
+-- yes, with so many bytes
+abbrev pub yes : ℕ → «zl_answer»
+yes m = record { number = 0; at = 0; field = 0; length = m }
+
+-- no: the refusal's number and place
+abbrev pub no : Refusal → «zl_answer»
+no r = record { number = r .number; at = r .at; field = r .field; length = 0 }
+
+-- the answer of a call that has a length
+abbrev pub told : Said Refusal ℕ → «zl_answer»
+told (says m) = yes m
+told (refuses r) = no r
+
+-- the answer of a call that writes bytes: their length
+abbrev pub toldWritten : Said Refusal (List ℕ) → «zl_answer»
+toldWritten (says new) = yes (length new)
+toldWritten (refuses r) = no r
+
+-- the answer of a call that shows places: it has no length
+abbrev pub toldShown : {A : Type 0} → Said Refusal (List A) → «zl_answer»
+toldShown (says zs) = yes 0
+toldShown (refuses r) = no r
+
+-- a kind by its number; 10 for a number that no kind has
+abbrev pub kindSaid : KindNo → Said Refusal Kind
+kindSaid (number.Is k) = says k
+kindSaid number.None = refuses (refused 10 0 0)
+
+-- the layout of three numbers and a kind
+abbrev pub layoutBy : ℕ → ℕ → ℕ → Kind → Layout
+layoutBy a d rows k = record { analogs = a; statuses = d; rows = rows; kind = k }
+
+-- what a check says
+abbrev pub accepted : Answer → Said Refusal (Unit {0})
+accepted answer.Yes = says tt
+accepted (answer.No r) = refuses r
+
+-- places that fit the room: 17 where they do not
+abbrev pub placed : {A : Type 0} → ℕ → List A → ℕ → Said Refusal (List A)
+placed count zs room = do
+  must (leb count room) (refused 17 0 0)
+  says zs

@@ -1,0 +1,62 @@
+-- `calls_change::change` meets its contract: the kind of the number, and then the call below.
+use Rattle.calls_change.specs.Calls.{changeCall}
+use Rattle.calls_change.specs.Inner.{changeIn}
+use mathlib.Core.Path.{sym, _∙_}
+use borrow.Author.Needs.{needs}
+use Rattle.calls_change.proofs.change.Statement.{statement}
+use Rattle.calls_change.proofs.change.Tie as tie
+
+of-requires : tie.Need-of-requires
+of-requires c κs = search needs
+
+enum-known-k : tie.Need-enum-known-k
+enum-known-k c = search needs
+
+layout-by-requires : tie.Need-layout-by-requires
+layout-by-requires c κs = search needs
+
+change-in-requires : tie.Need-change-in-requires
+change-in-requires c κs = search needs
+
+enum-told : tie.Need-enum-told
+enum-told c = search needs
+
+refused-requires : tie.Need-refused-requires
+refused-requires c κs = search needs
+
+no-requires : tie.Need-no-requires
+no-requires c κs = search needs
+
+same-length : tie.Need-same-length
+same-length c = search needs
+
+returns : tie.Need-returns
+unfolding changeCall changeIn
+returns c =
+    let b = c .before .before .before .before .before .before in
+    let kind = sym (b .before .before .of .ensures) ∙ b .k .given .1 in
+    let layout = c .before .before .before .before .layout-by .ensures in
+    let said = c .before .before .change-in .ensures in
+    (rw (said .0, layout, kind), rw kind (rw layout at (said .1)))
+
+returns-2 : tie.Need-returns-2
+unfolding changeCall changeIn
+returns-2 c =
+    let b = c .before .before in
+    let kind = sym (b .before .before .of .ensures) ∙ b .enum-told .given .1 in
+    (rw (c .no .ensures, c .before .refused .ensures, kind), rw kind)
+
+pub change-spec : {M : Type 1} → statement M
+change-spec =
+    tie.close
+    (tie.spec
+    of-requires
+    enum-known-k
+    layout-by-requires
+    change-in-requires
+    enum-told
+    refused-requires
+    no-requires
+    same-length
+    returns
+    returns-2)

@@ -1,0 +1,56 @@
+-- `calls_change::length` meets its contract: the kind of the number, and then the call below.
+use Rattle.calls_change.specs.Calls.{lengthCall}
+use Rattle.calls_change.specs.Inner.{neededIn}
+use mathlib.Core.Path.{sym, _∙_}
+use borrow.Author.Needs.{needs}
+use Rattle.calls_change.proofs.length.Statement.{statement}
+use Rattle.calls_change.proofs.length.Tie as tie
+
+of-requires : tie.Need-of-requires
+of-requires c κs = search needs
+
+enum-known-k : tie.Need-enum-known-k
+enum-known-k c = search needs
+
+layout-by-requires : tie.Need-layout-by-requires
+layout-by-requires c κs = search needs
+
+needed-in-requires : tie.Need-needed-in-requires
+needed-in-requires c κs = search needs
+
+enum-told : tie.Need-enum-told
+enum-told c = search needs
+
+refused-requires : tie.Need-refused-requires
+refused-requires c κs = search needs
+
+no-requires : tie.Need-no-requires
+no-requires c κs = search needs
+
+returns : tie.Need-returns
+unfolding lengthCall neededIn
+returns c =
+    let b = c .before .before .before in
+    let kind = sym (b .before .before .of .ensures) ∙ b .k .given .1 in
+    rw (c .needed-in .ensures, c .before .layout-by .ensures, kind)
+
+returns-2 : tie.Need-returns-2
+unfolding lengthCall neededIn
+returns-2 c =
+    let b = c .before .before in
+    let kind = sym (b .before .before .of .ensures) ∙ b .enum-told .given .1 in
+    rw (c .no .ensures, c .before .refused .ensures, kind)
+
+pub length-spec : {M : Type 1} → statement M
+length-spec =
+    tie.close
+    (tie.spec
+    of-requires
+    enum-known-k
+    layout-by-requires
+    needed-in-requires
+    enum-told
+    refused-requires
+    no-requires
+    returns
+    returns-2)

@@ -1,0 +1,22 @@
+-- The exported calls on a change of kind.
+use mathlib.Core.List.{List}
+use Prim.Native.Nat.{ℕ}
+use Rattle.ground.specs.Said.{Said, _>>=_}
+use Rattle.model.specs.declared.Refusal.{Refusal}
+use Rattle.model.specs.Kinds.{kindOf}
+use Rattle.change.specs.Change.{bytesNeeded, changeSaid}
+use Rattle.answers.specs.Answers.{kindSaid, layoutBy}
+
+-- zl_length: how many bytes a change of kind needs
+unfoldable pub lengthCall : ℕ → ℕ → ℕ → ℕ → List ℕ → ℕ → Said Refusal ℕ
+lengthCall a d rows kind s new = do
+  k ← kindSaid (kindOf kind)
+  m ← kindSaid (kindOf new)
+  bytesNeeded (layoutBy a d rows k) s m
+
+-- zl_change: the file in another kind; no room last of all
+unfoldable pub changeCall : ℕ → ℕ → ℕ → ℕ → List ℕ → ℕ → ℕ → Said Refusal (List ℕ)
+changeCall a d rows kind s new room = do
+  k ← kindSaid (kindOf kind)
+  m ← kindSaid (kindOf new)
+  changeSaid (layoutBy a d rows k) s m room

@@ -23,26 +23,26 @@ use Rattle.ground.proofs.Cases.{on-test, clash}
 use Rattle.ground.proofs.Every.{and-split}
 use Rattle.clock.specs.declared.Date.{Date}
 use Rattle.clock.specs.declared.DateField.the-variants.{Is, Form, Range}
-use Rattle.clock.specs.Patterns.{within, fits}
+use Rattle.patterns.specs.Patterns.{between, fitsPattern}
 use Rattle.clock.specs.Dates.{leapYear, shortMonth, monthDays, validDate, datePattern, dateOf, readDate, daysOfYears, daysOfMonths, dayNumber, nextDay}
-use Rattle.clock.proofs.PatternLaws.{within-bounds, within-is, chosen}
+use Rattle.patterns.proofs.PatternLaws.{between-bounds, between-is, chosen}
 
 pub date-bounds : (x : Date) → validDate x ≡ true
     → (1900 ≤ x .year) × (x .year ≤ 9999) × (1 ≤ x .month) × (x .month ≤ 12) × (1 ≤ x .day) × (x .day ≤ monthDays (x .year) (x .month))
 unfolding validDate
 date-bounds x e =
-    let s = and-split (within 1900 9999 (x .year) && within 1 12 (x .month)) _ e in
-    let t = and-split (within 1900 9999 (x .year)) (within 1 12 (x .month)) (s .0) in
-    let y = within-bounds 1900 9999 (x .year) (t .0) in
-    let m = within-bounds 1 12 (x .month) (t .1) in
-    let d = within-bounds 1 (monthDays (x .year) (x .month)) (x .day) (s .1) in
+    let s = and-split (between 1900 9999 (x .year) && between 1 12 (x .month)) _ e in
+    let t = and-split (between 1900 9999 (x .year)) (between 1 12 (x .month)) (s .0) in
+    let y = between-bounds 1900 9999 (x .year) (t .0) in
+    let m = between-bounds 1 12 (x .month) (t .1) in
+    let d = between-bounds 1 (monthDays (x .year) (x .month)) (x .day) (s .1) in
     (y .0, y .1, m .0, m .1, d .0, d .1)
 
 date-is : (x : Date) → 1900 ≤ x .year → x .year ≤ 9999 → 1 ≤ x .month → x .month ≤ 12 → 1 ≤ x .day → x .day ≤ monthDays (x .year) (x .month)
     → validDate x ≡ true
 unfolding validDate
 date-is x h i j k m n =
-    rw (within-is 1900 9999 (x .year) h i, within-is 1 12 (x .month) j k, within-is 1 (monthDays (x .year) (x .month)) (x .day) m n)
+    rw (between-is 1900 9999 (x .year) h i, between-is 1 12 (x .month) j k, between-is 1 (monthDays (x .year) (x .month)) (x .day) m n)
 
 pub month-between : (y m : ℕ) → (28 ≤ monthDays y m) × (monthDays y m ≤ 31)
 unfolding monthDays
@@ -67,9 +67,9 @@ unfolding daysOfMonths monthDays shortMonth
 year-days y = on-test (leapYear y) (λ e. rw e) (λ e. rw e)
 
 -- a quotient is one more where nothing is left over
-over : (k n q : ℕ) → 0 < k → q * k ≡ n + 1 → q ≡ n / k + 1
-over k n zero h e = absurd (omega (arith, zero-mul k))
-over k n (suc p) h e =
+quotient-over : (k n q : ℕ) → 0 < k → q * k ≡ n + 1 → q ≡ n / k + 1
+quotient-over k n zero h e = absurd (omega (arith, zero-mul k))
+quotient-over k n (suc p) h e =
     let f : p * k + k ≡ n + 1 = rw suc-mul at e in
     let g : (p + 1) * k ≡ p * k + k = rw (add-one, suc-mul) in
     omega (arith, div-eq-of-lt-le {k = p} k {m = n} (omega arith) (omega arith))
@@ -83,7 +83,7 @@ quotient-next : (k n : ℕ) → 0 < k → (n + 1) / k ≡ n / k + (if eqb ((n + 
 quotient-next k n h =
     let e = div-add-mod' (n + 1) k in
     on-test (eqb ((n + 1) % k) 0)
-    (λ t. rw t (over k n ((n + 1) / k) h (omega (arith, eqb-true ((n + 1) % k) 0 t))))
+    (λ t. rw t (quotient-over k n ((n + 1) / k) h (omega (arith, eqb-true ((n + 1) % k) 0 t))))
     (λ t. rw t (stay k n ((n + 1) / k) ((n + 1) % k) (mod-lt (n + 1) h) (eqb-false ((n + 1) % k) 0 t) e ∙ omega arith))
 
 -- what goes by 400 goes by 100, and what goes by 100 by 4
@@ -159,6 +159,6 @@ next-valid x e h =
 pub read-date-valid : (l : List ℕ) (x : Date) → readDate l ≡ Is x → validDate x ≡ true
 unfolding readDate
 read-date-valid l x e =
-    let s = chosen (fits datePattern l) (validDate (dateOf l)) (Is (dateOf l)) Range Form (Is x) (λ f. clash (cc)) (λ f. clash (cc)) e in
+    let s = chosen (fitsPattern datePattern l) (validDate (dateOf l)) (Is (dateOf l)) Range Form (Is x) (λ f. clash (cc)) (λ f. clash (cc)) e in
     let q : dateOf l ≡ x = cc in
     rw (← q) (s .0)

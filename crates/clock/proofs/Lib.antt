@@ -1,4 +1,3 @@
-pub mod PatternLaws
 pub mod DateLaws
 pub mod TimeLaws
 pub mod SpanLaws

@@ -3,7 +3,6 @@
 --     apart-fits             a difference of two sizes fits
 --     less-one               a difference less one
 --     second-size            a second's number is a size below 2 ^ 40
---     read-back              a number that fits is read as it was written
 --     days-fit, second-fits, seconds-fit, less-fit     what the code computes with signed numbers fits
 --     pre-exact              seconds and nanoseconds are the difference of the two times
 --     pre-below              the nanoseconds are less than a second
@@ -16,10 +15,8 @@ use borrow.Author.Tests.{leb-true, leb-false}
 use lib.Dec.{ltb, leb}
 use lib.IntN.{ℤ, pos, negℤ, subℕ, _+ℤ_, _-ℤ_, _*ℤ_, ℤ-ind, pos-+ℤ-pos, negℤ-+ℤ}
 use lib.IntN.{+ℤ-idl, +ℤ-idr, +ℤ-assoc, +ℤ-comm, +ℤ-one, -ℤ-one, +ℤ-sucℤ, +ℤ-predℤ, sucℤ-*ℤ, predℤ-*ℤ, zero-*ℤ, +ℤ-invl, +ℤ-negℤ-cancel, -ℤ-+ℤ-cancel}
-use lib.Signed.{mag}
 use mir.Syntax.{w64}
-use mir.Val.{SFits, toZ, ofZ}
-use mir.ValLaws.{toZ-ofZ}
+use mir.Val.{SFits}
 use Rattle.ground.proofs.Cases.{on-test}
 use Rattle.clock.specs.declared.Date.{Date}
 use Rattle.clock.specs.declared.Time.{Time}
@@ -58,9 +55,6 @@ unfolding secondNumber
 second-size x t h k =
     let s = day-size x h in
     (s .0 * 86400 + secondOfDay t, rw (s .1), omega (arith, second-at-most t k))
-
-pub read-back : (z : ℤ) → mag z < 2 ^ 63 → toZ w64 (ofZ w64 z) ≡ z
-read-back z h = toZ-ofZ w64 z (record { sfits = h })
 
 pub days-fit : (x : Date) → validDate x ≡ true → SFits w64 (dayNumber x *ℤ pos 86400)
 days-fit x h = let s = day-size x h in rw (s .1) (record { sfits = omega arith })

@@ -20,9 +20,9 @@ use Rattle.numerals.specs.Counts.{lengthIn}
 use Rattle.numerals.proofs.CountLaws.{length-bounds}
 use Rattle.clock.specs.declared.Time.{Time}
 use Rattle.clock.specs.declared.TimeField.the-variants.{Is, Form, Range}
-use Rattle.clock.specs.Patterns.{fits}
+use Rattle.patterns.specs.Patterns.{fitsPattern}
 use Rattle.clock.specs.Times.{validTime, timePattern, timeForm, timeOf, readTime, secondOfDay}
-use Rattle.clock.proofs.PatternLaws.{chosen}
+use Rattle.patterns.proofs.PatternLaws.{chosen}
 
 pub time-bounds : (x : Time) → validTime x ≡ true → (x .hour < 24) × (x .minute < 60) × (x .second < 60) × (x .nanosecond < 1_000_000_000)
 unfolding validTime
@@ -37,7 +37,7 @@ time-bounds x e =
 
 pub form-length : (l : List ℕ) → timeForm l ≡ true → (15 ≤ length l) × (length l ≤ 18)
 unfolding timeForm
-form-length l e = length-bounds 15 18 l (and-split (lengthIn 15 18 l) (fits (take (length l) timePattern) l) e .0)
+form-length l e = length-bounds 15 18 l (and-split (lengthIn 15 18 l) (fitsPattern (take (length l) timePattern) l) e .0)
 
 pub fraction-turn : (n k : ℕ) → k < 18 → 10 * n * 10 ^ (18 - (k + 1)) ≡ n * 10 ^ (18 - k)
 fraction-turn n k h =

@@ -9,7 +9,7 @@ use Rattle.ground.specs.Choice.{if_then_else_}
 use Rattle.clock.specs.declared.Date.{Date}
 use Rattle.clock.specs.declared.DateField.{DateField}
 use Rattle.clock.specs.declared.DateField.the-variants.{Is, Form, Range}
-use Rattle.clock.specs.Patterns.{fits, digitsAt, within}
+use Rattle.patterns.specs.Patterns.{fitsPattern, digitsAt, between}
 
 -- a leap year: by 400, or by 4 and not by 100
 unfoldable pub leapYear : ℕ → Bool
@@ -25,7 +25,7 @@ monthDays y m = if eqb m 2 then if leapYear y then 29 else 28 else if shortMonth
 
 -- a day of the Gregorian calendar, in the years 1900 to 9999
 unfoldable pub validDate : Date → Bool
-validDate x = within 1900 9999 (x .year) && within 1 12 (x .month) && within 1 (monthDays (x .year) (x .month)) (x .day)
+validDate x = between 1900 9999 (x .year) && between 1 12 (x .month) && between 1 (monthDays (x .year) (x .month)) (x .day)
 
 -- dd/mm/yyyy
 abbrev pub datePattern : List ℕ
@@ -37,7 +37,7 @@ dateOf l = record { day = digitsAt 0 2 l; month = digitsAt 3 5 l; year = digitsA
 
 -- a date: the pattern first, and then the range
 unfoldable pub readDate : List ℕ → DateField
-readDate l = if fits datePattern l then if validDate (dateOf l) then Is (dateOf l) else Range else Form
+readDate l = if fitsPattern datePattern l then if validDate (dateOf l) then Is (dateOf l) else Range else Form
 
 -- the days of the first n years, counted from year 1
 unfoldable pub daysOfYears : ℕ → ℕ

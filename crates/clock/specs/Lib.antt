@@ -1,5 +1,3 @@
-pub mod Patterns
 pub mod Dates
 pub mod Times
 pub mod Spans
-pub mod Codes

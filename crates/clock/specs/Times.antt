@@ -10,7 +10,7 @@ use Rattle.numerals.specs.Counts.{lengthIn}
 use Rattle.clock.specs.declared.Time.{Time}
 use Rattle.clock.specs.declared.TimeField.{TimeField}
 use Rattle.clock.specs.declared.TimeField.the-variants.{Is, Form, Range}
-use Rattle.clock.specs.Patterns.{fits, digitsAt}
+use Rattle.patterns.specs.Patterns.{fitsPattern, digitsAt}
 
 -- hours to 23, minutes and seconds to 59, and less than a second in nanoseconds
 unfoldable pub validTime : Time → Bool
@@ -22,7 +22,7 @@ timePattern = quoted "dd:dd:dd.ddddddddd"
 
 -- 15 to 18 characters that fit as much of the pattern
 unfoldable pub timeForm : List ℕ → Bool
-timeForm l = lengthIn 15 18 l && fits (take (length l) timePattern) l
+timeForm l = lengthIn 15 18 l && fitsPattern (take (length l) timePattern) l
 
 -- the digits from place 9 on, of 9 in all, as nanoseconds
 unfoldable pub fractionOf : List ℕ → ℕ

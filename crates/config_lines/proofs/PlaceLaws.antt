@@ -36,11 +36,11 @@ use Rattle.clock.specs.declared.DateField.{DateField}
 use Rattle.clock.specs.declared.DateField.the-variants as date
 use Rattle.clock.specs.declared.TimeField.{TimeField}
 use Rattle.clock.specs.declared.TimeField.the-variants as time
-use Rattle.clock.specs.declared.Code.{Code}
-use Rattle.clock.specs.declared.Code.the-variants as code
+use Rattle.codes.specs.declared.Code.{Code}
+use Rattle.codes.specs.declared.Code.the-variants as code
 use Rattle.clock.specs.Dates.{readDate}
 use Rattle.clock.specs.Times.{readTime}
-use Rattle.clock.specs.Codes.{readCode, readLocalCode}
+use Rattle.codes.specs.Codes.{readCode, readLocalCode}
 use Rattle.config_lines.specs.declared.Fault.{Fault}
 use Rattle.config_lines.specs.Faults.{valueOf, textFault, yearIs, yearFault, indexIs, indexFault, anyReal, realFault, frequencyFault, aboveZero, aboveFault, isZero, zeroFault, rateFault, sideFault, stateFault}
 use Rattle.config_lines.specs.Lines.{fault, fields, fine, numberAt, limitAt, dateAt, timeAt, kindAt, codeAt, localAt, value, firstLine, channelsLine, names, scale, limits, analogLine, statusLine, frequencyLine, ratesLine, rateLine, dateLine, kindLine, multiplierLine, codesLine, qualityLine}

@@ -9,7 +9,7 @@ use Rattle.reals.specs.Exact.{readLimit, maxBelow}
 use Rattle.clock.specs.declared.Date.{Date}
 use Rattle.clock.specs.declared.Time.{Time}
 use Rattle.clock.specs.Times.{readTime}
-use Rattle.clock.specs.Codes.{readLocalCode}
+use Rattle.codes.specs.Codes.{readLocalCode}
 use Rattle.config_lines.specs.declared.Fault.{Fault}
 use Rattle.config_lines.specs.Lines.{fault, limitAt, timeAt, localAt}
 

@@ -21,11 +21,11 @@ use Rattle.clock.specs.declared.DateField.the-variants as date
 use Rattle.clock.specs.declared.Time.{Time}
 use Rattle.clock.specs.declared.TimeField.{TimeField}
 use Rattle.clock.specs.declared.TimeField.the-variants as time
-use Rattle.clock.specs.declared.Code.{Code}
-use Rattle.clock.specs.declared.Code.the-variants as code
+use Rattle.codes.specs.declared.Code.{Code}
+use Rattle.codes.specs.declared.Code.the-variants as code
 use Rattle.clock.specs.Dates.{readDate}
 use Rattle.clock.specs.Times.{readTime}
-use Rattle.clock.specs.Codes.{readCode, readLocalCode}
+use Rattle.codes.specs.Codes.{readCode, readLocalCode}
 use Rattle.model.specs.declared.Kind.{Kind}
 use Rattle.config_lines.specs.declared.Fault.{Fault}
 use Rattle.config_lines.specs.Faults.{textFault, yearFault, indexFault, realFault, frequencyFault, aboveFault, rateFault, sideFault, stateFault}

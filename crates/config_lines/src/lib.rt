@@ -1,10 +1,10 @@
 // The lines of a configuration, each by itself: how many fields it has, and what each field must say.
 // Each reader answers for any bytes: the line's values, or the number and field of its first refusal with zeros beside it.
-use clock::Code;
 use clock::Date;
 use clock::DateField;
 use clock::Time;
 use clock::TimeField;
+use codes::Code;
 use fields::Field;
 use fields::KindField;
 use model::Kind;
@@ -529,7 +529,7 @@ fn codes_said(number: u32, field: u32, code: i64, x: bool, local: i64) -> Coded
 fn with_local(code: i64, field: &[u8]) -> Coded
     ensures { λ r. ⌜ r ≡ codedOf (withLocal code (now (field .entry))) ⌝ }
 {
-    match clock::read_local_code(field) {
+    match codes::read_local_code(field) {
         Code::Minutes(m) => codes_said(0, 0, code, false, m),
         Code::X => codes_said(0, 0, code, true, 0),
         Code::Form => codes_said(5, 2, 0, false, 0),
@@ -544,7 +544,7 @@ pub fn codes_line(line: &[u8]) -> Coded
     if text::field_count(line) != 2 {
         return codes_said(4, 0, 0, false, 0);
     }
-    match clock::read_code(text::field_at(line, 1)) {
+    match codes::read_code(text::field_at(line, 1)) {
         Code::Minutes(m) => with_local(m, text::field_at(line, 2)),
         Code::X => codes_said(5, 1, 0, false, 0),
         Code::Form => codes_said(5, 1, 0, false, 0),

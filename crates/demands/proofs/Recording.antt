@@ -18,13 +18,12 @@ use Rattle.numerals.specs.Counts.{lengthIn, isDigit, numberOf, readCount}
 use Rattle.numerals.specs.Wholes.{signLength, hasMinus}
 use Rattle.fields.specs.Fields.{inRange, readCountIn, readLettered, readYear, readOneOf, digitValue, readDigitOf, readState, readSide, readQuality, readLeap, small, readKind}
 use Rattle.reals.specs.Forms.{leadingDigits, fractionLength, mantissaLength, isE, shortNumber, raisedBy, signedExponent, exponentOf, realForm, isNought, isZero, signOf, realSign, signedReal, readReal}
-use Rattle.reals.specs.Exact as reals
-use Rattle.reals.specs.Exact.{digitsOf, placesOf, exactOf, scaled, sizeLe, inBound, limitOf, signedLimit, readLimit, maxBelow}
-use Rattle.clock.specs.Patterns.{fitsPlace, fits, digitsAt, within}
+use Rattle.reals.specs.Exact.{digitsOf, placesOf, exactOf, scaled, sizeLe, within, inBound, limitOf, signedLimit, readLimit, maxBelow}
+use Rattle.patterns.specs.Patterns.{fitsCharacter, fitsPattern, digitsAt, between}
 use Rattle.clock.specs.Dates.{leapYear, shortMonth, monthDays, validDate, dateOf, readDate, daysOfYears, daysOfMonths, dayNumber}
 use Rattle.clock.specs.Times.{validTime, timeForm, fractionOf, timeOf, readTime, secondOfDay}
 use Rattle.clock.specs.Spans.{secondNumber, spanOf, preTrigger}
-use Rattle.clock.specs.Codes.{signedMinutes, minutesOf, hoursAndMinutes, hoursOf, smallX, codeOf, codeIn, readCode, readLocalCode}
+use Rattle.codes.specs.Codes.{signedMinutes, minutesOf, hoursAndMinutes, hoursOf, smallX, codeOf, codeIn, readCode, readLocalCode}
 use Rattle.config_lines.specs.Faults.{textFault, yearFault, indexFault, realFault, frequencyFault, aboveFault}
 use Rattle.config_lines.specs.Lines.{firstLine, channelsLine, names, scale, limits, analogLine, statusLine, frequencyLine, ratesLine, rateLine, dateLine, kindLine, multiplierLine, codesLine, qualityLine}
 use Rattle.model.specs.declared.Kind.the-variants.{Ascii}
@@ -70,8 +69,8 @@ unfolding readConfig configuration scanLine scanLastLine fieldCount afterFields 
     firstLine channelsLine names scale limits analogLine statusLine frequencyLine ratesLine rateLine dateLine kindLine multiplierLine codesLine qualityLine
     textFault yearFault indexFault realFault frequencyFault aboveFault inRange readCountIn readLettered readYear readOneOf digitValue readDigitOf readState readSide readQuality readLeap small readKind
     leadingDigits fractionLength mantissaLength isE shortNumber raisedBy signedExponent exponentOf realForm isNought isZero signOf realSign signedReal readReal
-    digitsOf placesOf exactOf scaled sizeLe reals.within inBound limitOf signedLimit readLimit maxBelow
-    readDate dateOf fits fitsPlace validDate within monthDays leapYear shortMonth digitsAt readTime timeForm validTime timeOf fractionOf
+    digitsOf placesOf exactOf scaled sizeLe within inBound limitOf signedLimit readLimit maxBelow
+    readDate dateOf fitsPattern fitsCharacter validDate between monthDays leapYear shortMonth digitsAt readTime timeForm validTime timeOf fractionOf
     preTrigger spanOf secondNumber dayNumber daysOfYears daysOfMonths secondOfDay
     readCode readLocalCode codeIn codeOf smallX hoursAndMinutes hoursOf minutesOf signedMinutes
 computed = (refl, refl, refl)

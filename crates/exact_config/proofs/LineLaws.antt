@@ -35,11 +35,11 @@ use Rattle.clock.specs.declared.Date.{Date}
 use Rattle.clock.specs.declared.DateField.the-variants as date
 use Rattle.clock.specs.declared.Time.{Time}
 use Rattle.clock.specs.declared.TimeField.the-variants as time
-use Rattle.clock.specs.declared.Code.{Code}
-use Rattle.clock.specs.declared.Code.the-variants as code
+use Rattle.codes.specs.declared.Code.{Code}
+use Rattle.codes.specs.declared.Code.the-variants as code
 use Rattle.clock.specs.Dates.{readDate}
 use Rattle.clock.specs.Times.{readTime}
-use Rattle.clock.specs.Codes.{codeIn, readCode, readLocalCode}
+use Rattle.codes.specs.Codes.{codeIn, readCode, readLocalCode}
 use Rattle.config_lines.specs.declared.Fault.{Fault}
 use Rattle.config_lines.specs.Faults.{textFault, yearFault, indexFault, realFault, frequencyFault, aboveFault, rateFault, sideFault, stateFault}
 use Rattle.config_lines.specs.Lines.{fault, fields, fine, numberAt, limitAt, dateAt, timeAt, kindAt, codeAt, localAt, value, firstLine, channelsLine, names, scale, limits, analogLine, statusLine, frequencyLine, ratesLine, rateLine, dateLine, kindLine, multiplierLine, codesLine, qualityLine}

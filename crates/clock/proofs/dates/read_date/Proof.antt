@@ -1,0 +1,50 @@
+-- `read_date` meets its contract.
+use Rattle.patterns.specs.Patterns.{fitsPattern}
+use mathlib.Core.Bool.{true}
+use mathlib.Core.Path.{sym, _∙_, _≡_}
+use borrow.Author.Tests.{not-true, not-false}
+use Rattle.clock.specs.Dates.{datePattern, readDate}
+use Rattle.patterns.proofs.PatternLaws.{fits-length}
+use borrow.Author.Needs.{needs}
+use Rattle.clock.proofs.dates.read_date.Statement.{statement}
+use Rattle.clock.proofs.dates.read_date.Tie as tie
+
+slice-aggregate-fits-pattern : tie.Need-slice-aggregate-fits-pattern
+slice-aggregate-fits-pattern c = search needs
+
+fits-pattern-requires : tie.Need-fits-pattern-requires
+fits-pattern-requires c κs = search needs
+
+returns : tie.Need-returns
+unfolding readDate
+returns c = rw (← c .before .fits-pattern .ensures, not-true (c .before .fits-pattern .result) (c .if1 .taken))
+
+-- the form is right
+form : (c : tie.Else1) → fitsPattern datePattern (c .before .before .before .before .args .field .now) ≡ true
+form c = sym (c .before .fits-pattern .ensures) ∙ not-false (c .before .fits-pattern .result) (c .if1 .left)
+
+date-of-requires : tie.Need-date-of-requires
+date-of-requires c κs = fits-length datePattern (c .before .before .before .before .args .field .now) (form c)
+
+valid-date-requires : tie.Need-valid-date-requires
+valid-date-requires c κs = search needs
+
+returns-2 : tie.Need-returns-2
+unfolding readDate
+returns-2 c = rw (form (c .before .before .before), ← c .before .before .date-of .ensures, ← c .before .valid-date .ensures, c .if2 .taken)
+
+returns-3 : tie.Need-returns-3
+unfolding readDate
+returns-3 c = rw (form (c .before .before .before), ← c .before .before .date-of .ensures, ← c .before .valid-date .ensures, c .if2 .left)
+
+pub read-date-spec : {M : Type 1} → statement M
+read-date-spec =
+    tie.close
+    (tie.spec
+    slice-aggregate-fits-pattern
+    fits-pattern-requires
+    returns
+    date-of-requires
+    valid-date-requires
+    returns-2
+    returns-3)

@@ -7,24 +7,13 @@ use Rattle.clock.specs.declared.Date.{Date}
 use Rattle.clock.specs.declared.Time.{Time}
 use Rattle.model.specs.declared.Kind.{Kind}
 use Rattle.model.specs.declared.Kind.the-variants.{Ascii}
-use Rattle.config_lines.specs.declared.Fault.{Fault}
-use Rattle.config_lines.specs.declared.Channels.{Channels}
+use Rattle.line_fields.specs.declared.Fault.{Fault}
+use Rattle.line_fields.specs.Checks.{fault}
 use Rattle.config_lines.specs.declared.Counted.{Counted}
 use Rattle.config_lines.specs.declared.Dated.{Dated}
 use Rattle.config_lines.specs.declared.Kinded.{Kinded}
 use Rattle.config_lines.specs.declared.Coded.{Coded}
 use Rattle.config_lines.specs.declared.Quality.{Quality}
-use Rattle.config_lines.specs.Lines.{fault}
-
--- a line's fault, zeros for none
-abbrev pub faultOf : {A : Type 0} → Said Fault A → Fault
-faultOf (says a) = fault 0 0
-faultOf (refuses f) = f
-
--- A and D
-abbrev pub channelsOf : Said Fault (ℕ × ℕ) → Channels
-channelsOf (says (a, d)) = record { fault = fault 0 0; analogs = a; statuses = d }
-channelsOf (refuses f) = record { fault = f; analogs = 0; statuses = 0 }
 
 -- the number of rates, or a last row
 abbrev pub countedOf : Said Fault ℕ → Counted

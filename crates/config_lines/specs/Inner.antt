@@ -1,23 +1,15 @@
 -- NOTHING TO BELIEVE HERE: what the parts of a line's reader say; the reader's own contract says the whole line.
-use mathlib.Core.Bool.{Bool, not}
+use mathlib.Core.Bool.{Bool}
 use mathlib.Core.List.{List}
 use Prim.Native.Nat.{ℕ}
 use lib.IntN.{ℤ}
-use Rattle.ground.specs.Said.{Said, says, _>>=_, must}
-use Rattle.reals.specs.declared.Exact.{Exact}
-use Rattle.reals.specs.Exact.{readLimit, maxBelow}
+use Rattle.ground.specs.Said.{Said, says, _>>=_}
 use Rattle.clock.specs.declared.Date.{Date}
 use Rattle.clock.specs.declared.Time.{Time}
 use Rattle.clock.specs.Times.{readTime}
 use Rattle.codes.specs.Codes.{readLocalCode}
-use Rattle.config_lines.specs.declared.Fault.{Fault}
-use Rattle.config_lines.specs.Lines.{fault, limitAt, timeAt, localAt}
-
--- max, which is not below min
-unfoldable pub maxFrom : Exact → List ℕ → Said Fault (Unit {0})
-maxFrom min l = do
-  max ← limitAt 10 (readLimit l)
-  must (not (maxBelow max min)) (fault 7 10)
+use Rattle.line_fields.specs.declared.Fault.{Fault}
+use Rattle.config_lines.specs.Lines.{timeAt, localAt}
 
 -- a date and the time in a field
 unfoldable pub withTime : Date → List ℕ → Said Fault (Date × Time)

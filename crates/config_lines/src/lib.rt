@@ -1,41 +1,25 @@
-// The lines of a configuration, each by itself: how many fields it has, and what each field must say.
+// The lines of a configuration that speak of no channel, each by itself: how many fields it has, and what each field must say.
 // Each reader answers for any bytes: the line's values, or the number and field of its first refusal with zeros beside it.
 use clock::Date;
 use clock::DateField;
 use clock::Time;
 use clock::TimeField;
 use codes::Code;
-use fields::Field;
 use fields::KindField;
+use line_fields::Fault;
+use line_fields::above_fault;
+use line_fields::at;
+use line_fields::frequency_fault;
+use line_fields::rate_fault;
+use line_fields::text_fault;
+use line_fields::value_of;
+use line_fields::year_fault;
 use model::Kind;
-use numerals::Count;
-use reals::Exact;
-use reals::Limit;
-use reals::Real;
 ghost use mathlib.Core.Path.{_≡_};
-ghost use Rattle.reals.specs.Exact.{Sound};
-ghost use Rattle.config_lines.specs.Faults.{valueOf, textFault, yearFault, indexFault, realFault, frequencyFault, aboveFault, zeroFault, rateFault, sideFault, stateFault};
-ghost use Rattle.config_lines.specs.Lines.{firstLine, channelsLine, names, scale, limits, analogLine, statusLine, frequencyLine, ratesLine, rateLine, dateLine, kindLine, multiplierLine, codesLine, qualityLine};
-ghost use Rattle.config_lines.specs.Answers.{faultOf, channelsOf, countedOf, noDate, noTime, datedOf, kindedOf, codedOf, qualityOf};
-ghost use Rattle.config_lines.specs.Inner.{maxFrom, withTime, withLocal};
-
-// A refusal's number and field; zeros for none.
-pub struct Fault {
-    pub number: u32,
-    pub field: u32,
-}
-
-// A field's value beside its number.
-pub struct Value {
-    pub number: u32,
-    pub value: u64,
-}
-
-pub struct Channels {
-    pub fault: Fault,
-    pub analogs: u64,
-    pub statuses: u64,
-}
+ghost use Rattle.line_fields.specs.Checks.{faultOf};
+ghost use Rattle.config_lines.specs.Lines.{firstLine, frequencyLine, ratesLine, rateLine, dateLine, kindLine, multiplierLine, codesLine, qualityLine};
+ghost use Rattle.config_lines.specs.Answers.{countedOf, noDate, noTime, datedOf, kindedOf, codedOf, qualityOf};
+ghost use Rattle.config_lines.specs.Inner.{withTime, withLocal};
 
 pub struct Counted {
     pub fault: Fault,
@@ -66,127 +50,6 @@ pub struct Quality {
     pub leap: u64,
 }
 
-fn at(number: u32, field: u32) -> Fault
-    ensures { λ r. ⌜ r ≡ record { number = number; field = field } ⌝ }
-{
-    Fault {
-        number: number,
-        field: field,
-    }
-}
-
-fn value_of(field: Field) -> Value
-    ensures { λ r. ⌜ r ≡ valueOf field ⌝ }
-{
-    match field {
-        Field::Is(v) => Value {
-            number: 0,
-            value: v,
-        },
-        Field::Form => Value {
-            number: 5,
-            value: 0,
-        },
-        Field::Range => Value {
-            number: 6,
-            value: 0,
-        },
-    }
-}
-
-// What is wrong with a field: 0 where it is fine.
-fn text_fault(field: &[u8], least: usize, most: usize) -> u32
-    ensures { λ r. ⌜ r ≡ textFault least most (now (field .entry)) ⌝ }
-{
-    if numerals::length_in(field, least, most) {
-        return 0;
-    }
-    5
-}
-
-fn year_fault(field: &[u8]) -> u32
-    ensures { λ r. ⌜ r ≡ yearFault (now (field .entry)) ⌝ }
-{
-    match fields::read_year(field) {
-        Count::Form => 5,
-        Count::Is(y) => { if y == 2013 { 0 } else { 8 } }
-    }
-}
-
-fn index_fault(field: &[u8], i: u64) -> u32
-    ensures { λ r. ⌜ r ≡ indexFault i (now (field .entry)) ⌝ }
-{
-    match numerals::read_count(field, 1, 6) {
-        Count::Form => 5,
-        Count::Is(v) => { if v == i { 0 } else { 7 } }
-    }
-}
-
-fn real_fault(field: &[u8]) -> u32
-    ensures { λ r. ⌜ r ≡ realFault (now (field .entry)) ⌝ }
-{
-    match reals::read_real(field, 1, 32) {
-        Real::Below => 0,
-        Real::Zero => 0,
-        Real::Above => 0,
-        Real::Form => 5,
-    }
-}
-
-fn frequency_fault(field: &[u8]) -> u32
-    ensures { λ r. ⌜ r ≡ frequencyFault (now (field .entry)) ⌝ }
-{
-    if field.len() == 0 {
-        return 0;
-    }
-    real_fault(field)
-}
-
-fn above_fault(field: &[u8]) -> u32
-    ensures { λ r. ⌜ r ≡ aboveFault (now (field .entry)) ⌝ }
-{
-    match reals::read_real(field, 1, 32) {
-        Real::Below => 6,
-        Real::Zero => 6,
-        Real::Above => 0,
-        Real::Form => 5,
-    }
-}
-
-fn zero_fault(field: &[u8]) -> u32
-    ensures { λ r. ⌜ r ≡ zeroFault (now (field .entry)) ⌝ }
-{
-    match reals::read_real(field, 1, 32) {
-        Real::Below => 6,
-        Real::Zero => 0,
-        Real::Above => 6,
-        Real::Form => 5,
-    }
-}
-
-fn rate_fault(field: &[u8], none: bool) -> u32
-    ensures { λ r. ⌜ r ≡ rateFault none (now (field .entry)) ⌝ }
-{
-    if none {
-        return zero_fault(field);
-    }
-    above_fault(field)
-}
-
-fn side_fault(field: &[u8]) -> u32
-    ensures { λ r. ⌜ r ≡ sideFault (now (field .entry)) ⌝ }
-{
-    let v = value_of(fields::read_side(field));
-    v.number
-}
-
-fn state_fault(field: &[u8]) -> u32
-    ensures { λ r. ⌜ r ≡ stateFault (now (field .entry)) ⌝ }
-{
-    let v = value_of(fields::read_state(field));
-    v.number
-}
-
 // Station, device, year.
 pub fn first_line(line: &[u8]) -> Fault
     ensures { λ r. ⌜ r ≡ faultOf (firstLine (now (line .entry))) ⌝ }
@@ -205,168 +68,6 @@ pub fn first_line(line: &[u8]) -> Fault
     let e3 = year_fault(text::field_at(line, 3));
     if e3 != 0 {
         return at(e3, 3);
-    }
-    at(0, 0)
-}
-
-fn no_channels(number: u32, field: u32) -> Channels
-    ensures { λ r. ⌜ r ≡ record { fault = record { number = number; field = field }; analogs = 0; statuses = 0 } ⌝ }
-{
-    Channels {
-        fault: at(number, field),
-        analogs: 0,
-        statuses: 0,
-    }
-}
-
-// TT, A and D.
-pub fn channels_line(line: &[u8]) -> Channels
-    ensures { λ r. ⌜ r ≡ channelsOf (channelsLine (now (line .entry))) ⌝ }
-{
-    if text::field_count(line) != 3 {
-        return no_channels(4, 0);
-    }
-    let t = value_of(fields::read_count_in(text::field_at(line, 1), 6, 1, 352));
-    if t.number != 0 {
-        return no_channels(t.number, 1);
-    }
-    let a = value_of(fields::read_lettered(text::field_at(line, 2), 65, 96));
-    if a.number != 0 {
-        return no_channels(a.number, 2);
-    }
-    let d = value_of(fields::read_lettered(text::field_at(line, 3), 68, 256));
-    if d.number != 0 {
-        return no_channels(d.number, 3);
-    }
-    if t.value != a.value + d.value {
-        return no_channels(7, 3);
-    }
-    Channels {
-        fault: at(0, 0),
-        analogs: a.value,
-        statuses: d.value,
-    }
-}
-
-// Max, where min is told.
-fn max_fault(min: Exact, field: &[u8]) -> Fault
-    requires { ⌜ Sound min ⌝ }
-    ensures { λ r. ⌜ r ≡ faultOf (maxFrom min (now (field .entry))) ⌝ }
-{
-    match reals::read_limit(field) {
-        Limit::Form => at(5, 10),
-        Limit::Range => at(6, 10),
-        Limit::Is(max) => {
-            if reals::max_below(max, min) {
-                return at(7, 10);
-            }
-            at(0, 0)
-        }
-    }
-}
-
-// Min and max.
-fn limits_fault(line: &[u8]) -> Fault
-    ensures { λ r. ⌜ r ≡ faultOf (limits (now (line .entry))) ⌝ }
-{
-    match reals::read_limit(text::field_at(line, 9)) {
-        Limit::Form => at(5, 9),
-        Limit::Range => at(6, 9),
-        Limit::Is(min) => max_fault(min, text::field_at(line, 10)),
-    }
-}
-
-// The number of fields, index, name, phase and circuit of channel i.
-fn names_fault(line: &[u8], count: usize, i: u64) -> Fault
-    ensures { λ r. ⌜ r ≡ faultOf (names count i (now (line .entry))) ⌝ }
-{
-    if text::field_count(line) != count {
-        return at(4, 0);
-    }
-    let e1 = index_fault(text::field_at(line, 1), i);
-    if e1 != 0 {
-        return at(e1, 1);
-    }
-    let e2 = text_fault(text::field_at(line, 2), 1, 128);
-    if e2 != 0 {
-        return at(e2, 2);
-    }
-    let e3 = text_fault(text::field_at(line, 3), 0, 2);
-    if e3 != 0 {
-        return at(e3, 3);
-    }
-    let e4 = text_fault(text::field_at(line, 4), 0, 64);
-    if e4 != 0 {
-        return at(e4, 4);
-    }
-    at(0, 0)
-}
-
-// Unit, a, b and skew.
-fn scale_fault(line: &[u8]) -> Fault
-    ensures { λ r. ⌜ r ≡ faultOf (scale (now (line .entry))) ⌝ }
-{
-    let e5 = text_fault(text::field_at(line, 5), 1, 32);
-    if e5 != 0 {
-        return at(e5, 5);
-    }
-    let e6 = real_fault(text::field_at(line, 6));
-    if e6 != 0 {
-        return at(e6, 6);
-    }
-    let e7 = real_fault(text::field_at(line, 7));
-    if e7 != 0 {
-        return at(e7, 7);
-    }
-    let e8 = real_fault(text::field_at(line, 8));
-    if e8 != 0 {
-        return at(e8, 8);
-    }
-    at(0, 0)
-}
-
-// The line of analog channel i.
-pub fn analog_line(line: &[u8], i: u64) -> Fault
-    ensures { λ r. ⌜ r ≡ faultOf (analogLine i (now (line .entry))) ⌝ }
-{
-    let names = names_fault(line, 13, i);
-    if names.number != 0 {
-        return names;
-    }
-    let scale = scale_fault(line);
-    if scale.number != 0 {
-        return scale;
-    }
-    let limits = limits_fault(line);
-    if limits.number != 0 {
-        return limits;
-    }
-    let e11 = real_fault(text::field_at(line, 11));
-    if e11 != 0 {
-        return at(e11, 11);
-    }
-    let e12 = real_fault(text::field_at(line, 12));
-    if e12 != 0 {
-        return at(e12, 12);
-    }
-    let e13 = side_fault(text::field_at(line, 13));
-    if e13 != 0 {
-        return at(e13, 13);
-    }
-    at(0, 0)
-}
-
-// The line of status channel i.
-pub fn status_line(line: &[u8], i: u64) -> Fault
-    ensures { λ r. ⌜ r ≡ faultOf (statusLine i (now (line .entry))) ⌝ }
-{
-    let names = names_fault(line, 5, i);
-    if names.number != 0 {
-        return names;
-    }
-    let e5 = state_fault(text::field_at(line, 5));
-    if e5 != 0 {
-        return at(e5, 5);
     }
     at(0, 0)
 }

@@ -8,10 +8,12 @@ use lib.Dec.{eqb, ltb}
 use lib.IntN.{ℤ, pos}
 use lib.ListN.{set}
 use Rattle.ground.specs.Choice.{if_then_else_}
-use Rattle.config_lines.specs.declared.Fault.{Fault}
+use Rattle.line_fields.specs.declared.Fault.{Fault}
 use Rattle.config_lines.specs.declared.Dated.{Dated}
-use Rattle.config_lines.specs.Lines.{fault, firstLine, channelsLine, analogLine, statusLine, frequencyLine, ratesLine, rateLine, dateLine, kindLine, multiplierLine, codesLine, qualityLine}
-use Rattle.config_lines.specs.Answers.{faultOf, channelsOf, countedOf, datedOf, kindedOf, codedOf, qualityOf}
+use Rattle.line_fields.specs.Checks.{fault, faultOf}
+use Rattle.channel_lines.specs.Channels.{channelsLine, analogLine, statusLine, channelsOf}
+use Rattle.config_lines.specs.Lines.{firstLine, frequencyLine, ratesLine, rateLine, dateLine, kindLine, multiplierLine, codesLine, qualityLine}
+use Rattle.config_lines.specs.Answers.{countedOf, datedOf, kindedOf, codedOf, qualityOf}
 use Rattle.clock.specs.declared.Span.{Span}
 use Rattle.clock.specs.Dates.{validDate}
 use Rattle.clock.specs.Times.{validTime}

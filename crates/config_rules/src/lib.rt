@@ -4,7 +4,7 @@ use clock::Date;
 use clock::Span;
 use clock::Time;
 use config_lines::Dated;
-use config_lines::Fault;
+use line_fields::Fault;
 use model::Kind;
 use model::Layout;
 ghost use mathlib.Core.Path.{_≡_};
@@ -129,7 +129,7 @@ fn judged(fault: Fault, rule: Rule, config: Config) -> Taken
 fn take_counts(line: &[u8], c: Config) -> Taken
     ensures { λ r. ⌜ r ≡ takeLine Rule.Counts c (now (line .entry)) ⌝ }
 {
-    let k = config_lines::channels_line(line);
+    let k = channel_lines::channels_line(line);
     let fault = k.fault;
     let a = k.analogs as u32;
     let d = k.statuses as u32;
@@ -265,12 +265,12 @@ pub fn take_line(line: &[u8], rule: Rule, c: Config) -> Taken
         Rule::Station => judged(config_lines::first_line(line), Rule::Counts, c),
         Rule::Counts => take_counts(line, c),
         Rule::Analog(i) => judged(
-            config_lines::analog_line(line, i as u64),
+            channel_lines::analog_line(line, i as u64),
             after_analog(i, c.layout.analogs, c.layout.statuses),
             c,
         ),
         Rule::Status(i) => judged(
-            config_lines::status_line(line, i as u64),
+            channel_lines::status_line(line, i as u64),
             after_status(i, c.layout.statuses),
             c,
         ),

@@ -20,9 +20,12 @@ use Rattle.text.specs.Fields.{fieldCount, fieldLength, firstField, afterFields,
 use Rattle.numerals.specs.declared.Count.{Count}
 use Rattle.numerals.specs.declared.Count.the-variants as count
 use Rattle.numerals.specs.Counts.{readCount}
-use Rattle.config_lines.specs.declared.Fault.{Fault}
-use Rattle.config_lines.specs.Lines.{firstLine, channelsLine, analogLine, statusLine, frequencyLine, ratesLine, rateLine, dateLine, kindLine, multiplierLine, codesLine, qualityLine}
-use Rattle.config_lines.proofs.PlaceLaws.{FaultPlaced, whole, form, range, agreement, year, Ruled, first-ruled, channels-ruled, analog-ruled, status-ruled, frequency-ruled, rates-ruled, rate-ruled, date-line-ruled, kind-line-ruled, multiplier-ruled, codes-ruled, quality-ruled}
+use Rattle.line_fields.specs.declared.Fault.{Fault}
+use Rattle.channel_lines.specs.Channels.{channelsLine, analogLine, statusLine}
+use Rattle.config_lines.specs.Lines.{firstLine, frequencyLine, ratesLine, rateLine, dateLine, kindLine, multiplierLine, codesLine, qualityLine}
+use Rattle.line_fields.proofs.PlaceLaws.{FaultPlaced, whole, form, range, agreement, year, Ruled}
+use Rattle.channel_lines.proofs.PlaceLaws.{channels-ruled, analog-ruled, status-ruled}
+use Rattle.config_lines.proofs.PlaceLaws.{first-ruled, frequency-ruled, rates-ruled, rate-ruled, date-line-ruled, kind-line-ruled, multiplier-ruled, codes-ruled, quality-ruled}
 use Rattle.model.specs.declared.Kind.{Kind}
 use Rattle.model.specs.declared.Kind.the-variants.{Ascii, Binary, Binary32}
 use Rattle.model.specs.declared.Layout.{Layout}

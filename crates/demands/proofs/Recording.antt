@@ -24,8 +24,9 @@ use Rattle.clock.specs.Dates.{leapYear, shortMonth, monthDays, validDate, dateO
 use Rattle.clock.specs.Times.{validTime, timeForm, fractionOf, timeOf, readTime, secondOfDay}
 use Rattle.clock.specs.Spans.{secondNumber, spanOf, preTrigger}
 use Rattle.codes.specs.Codes.{signedMinutes, minutesOf, hoursAndMinutes, hoursOf, smallX, codeOf, codeIn, readCode, readLocalCode}
-use Rattle.config_lines.specs.Faults.{textFault, yearFault, indexFault, realFault, frequencyFault, aboveFault}
-use Rattle.config_lines.specs.Lines.{firstLine, channelsLine, names, scale, limits, analogLine, statusLine, frequencyLine, ratesLine, rateLine, dateLine, kindLine, multiplierLine, codesLine, qualityLine}
+use Rattle.line_fields.specs.Faults.{textFault, yearFault, indexFault, realFault, frequencyFault, aboveFault}
+use Rattle.channel_lines.specs.Channels.{channelsLine, names, scale, limits, analogLine, statusLine}
+use Rattle.config_lines.specs.Lines.{firstLine, frequencyLine, ratesLine, rateLine, dateLine, kindLine, multiplierLine, codesLine, qualityLine}
 use Rattle.model.specs.declared.Kind.the-variants.{Ascii}
 use Rattle.model.specs.declared.Answer.the-variants.{Yes, No}
 use Rattle.model.specs.Refusals.{refused}

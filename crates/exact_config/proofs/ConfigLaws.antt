@@ -25,7 +25,7 @@ use Rattle.text.specs.declared.Scanned.{Scanned}
 use Rattle.text.specs.declared.Scanned.the-variants as scan
 use Rattle.text.specs.Lines.{lineFrom, scanLine, orAll, scanLastLine, lineBytes}
 use Rattle.text.proofs.LineLaws.{line-found, last-line-found, line-ended, bytes-passed, line-scanned}
-use Rattle.config_lines.specs.declared.Fault.{Fault}
+use Rattle.line_fields.specs.declared.Fault.{Fault}
 use Rattle.config_lines.specs.Lines.{rateLine}
 use Rattle.model.specs.declared.Refusal.{Refusal}
 use Rattle.config.specs.Reading.{Place, Reader, inLine, scanned, done, holds, line, lastLine, times}

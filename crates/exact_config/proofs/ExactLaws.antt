@@ -27,7 +27,8 @@ use Rattle.clock.specs.declared.Date.{Date}
 use Rattle.clock.specs.declared.Time.{Time}
 use Rattle.clock.specs.declared.Span.{Span}
 use Rattle.clock.specs.Spans.{preTrigger}
-use Rattle.config_lines.specs.Lines.{firstLine, channelsLine, analogLine, statusLine, frequencyLine, ratesLine, dateLine, kindLine, multiplierLine, codesLine, qualityLine}
+use Rattle.channel_lines.specs.Channels.{channelsLine, analogLine, statusLine}
+use Rattle.config_lines.specs.Lines.{firstLine, frequencyLine, ratesLine, dateLine, kindLine, multiplierLine, codesLine, qualityLine}
 use Rattle.model.specs.declared.Kind.{Kind}
 use Rattle.model.specs.declared.Refusal.{Refusal}
 use Rattle.model.specs.declared.Answer.the-variants.{Yes, No}

@@ -22,8 +22,9 @@ use Rattle.ground.proofs.SaidLaws.{bind-told}
 use Rattle.text.specs.declared.Scanned.{Scanned}
 use Rattle.text.specs.declared.Scanned.the-variants as scan
 use Rattle.text.specs.Lines.{scanLine, scanLastLine}
-use Rattle.config_lines.specs.declared.Fault.{Fault}
-use Rattle.config_lines.specs.Lines.{firstLine, channelsLine, analogLine, statusLine, frequencyLine, ratesLine, rateLine, dateLine, kindLine, multiplierLine, codesLine, qualityLine}
+use Rattle.line_fields.specs.declared.Fault.{Fault}
+use Rattle.channel_lines.specs.Channels.{channelsLine, analogLine, statusLine}
+use Rattle.config_lines.specs.Lines.{firstLine, frequencyLine, ratesLine, rateLine, dateLine, kindLine, multiplierLine, codesLine, qualityLine}
 use Rattle.model.specs.declared.Refusal.{Refusal}
 use Rattle.model.specs.declared.Answer.the-variants.{Yes, No}
 use Rattle.model.specs.Refusals.{refused}

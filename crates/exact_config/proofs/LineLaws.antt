@@ -40,10 +40,13 @@ use Rattle.codes.specs.declared.Code.the-variants as code
 use Rattle.clock.specs.Dates.{readDate}
 use Rattle.clock.specs.Times.{readTime}
 use Rattle.codes.specs.Codes.{codeIn, readCode, readLocalCode}
-use Rattle.config_lines.specs.declared.Fault.{Fault}
-use Rattle.config_lines.specs.Faults.{textFault, yearFault, indexFault, realFault, frequencyFault, aboveFault, rateFault, sideFault, stateFault}
-use Rattle.config_lines.specs.Lines.{fault, fields, fine, numberAt, limitAt, dateAt, timeAt, kindAt, codeAt, localAt, value, firstLine, channelsLine, names, scale, limits, analogLine, statusLine, frequencyLine, ratesLine, rateLine, dateLine, kindLine, multiplierLine, codesLine, qualityLine}
-use Rattle.config_lines.proofs.Laws.{number-told, date-told, time-told}
+use Rattle.line_fields.specs.declared.Fault.{Fault}
+use Rattle.line_fields.specs.Faults.{textFault, yearFault, indexFault, realFault, frequencyFault, aboveFault, rateFault, sideFault, stateFault}
+use Rattle.line_fields.specs.Checks.{fault, fields, fine, numberAt, value}
+use Rattle.channel_lines.specs.Channels.{limitAt, channelsLine, names, scale, limits, analogLine, statusLine}
+use Rattle.config_lines.specs.Lines.{dateAt, timeAt, kindAt, codeAt, localAt, firstLine, frequencyLine, ratesLine, rateLine, dateLine, kindLine, multiplierLine, codesLine, qualityLine}
+use Rattle.line_fields.proofs.ValueLaws.{number-told}
+use Rattle.config_lines.proofs.Laws.{date-told, time-told}
 use Rattle.model.specs.declared.Kind.{Kind}
 use Rattle.config_rules.specs.declared.Moment.{Moment}
 use Rattle.paper.specs.Fields.{isBetween, CountIn, Limits}

@@ -1,7 +1,7 @@
 -- `quality_line` meets its contract.
 use borrow.Author.Tests.{eq-eqb, ne-eqb}
 use Rattle.config_lines.specs.Lines.{qualityLine}
-use Rattle.config_lines.proofs.Laws.{number-is}
+use Rattle.line_fields.proofs.ValueLaws.{number-is}
 use borrow.Author.Needs.{needs}
 use Rattle.config_lines.proofs.quality_line.Statement.{statement}
 use Rattle.config_lines.proofs.quality_line.Tie as tie

@@ -1,7 +1,7 @@
 -- `rate_line` meets its contract.
 use borrow.Author.Tests.{eq-eqb, ne-eqb, lt-ltb, le-ltb}
 use Rattle.config_lines.specs.Lines.{rateLine}
-use Rattle.config_lines.proofs.Laws.{number-is}
+use Rattle.line_fields.proofs.ValueLaws.{number-is}
 use borrow.Author.Needs.{needs}
 use Rattle.config_lines.proofs.rate_line.Statement.{statement}
 use Rattle.config_lines.proofs.rate_line.Tie as tie

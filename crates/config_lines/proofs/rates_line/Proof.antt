@@ -1,7 +1,7 @@
 -- `rates_line` meets its contract.
 use borrow.Author.Tests.{eq-eqb, ne-eqb}
 use Rattle.config_lines.specs.Lines.{ratesLine}
-use Rattle.config_lines.proofs.Laws.{number-is}
+use Rattle.line_fields.proofs.ValueLaws.{number-is}
 use borrow.Author.Needs.{needs}
 use Rattle.config_lines.proofs.rates_line.Statement.{statement}
 use Rattle.config_lines.proofs.rates_line.Tie as tie

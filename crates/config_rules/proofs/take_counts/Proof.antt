@@ -1,6 +1,6 @@
 -- `take_counts` meets its contract.
 use native.Mathlib.Omega.{arith}
-use Rattle.config_lines.proofs.Laws.{channels-le}
+use Rattle.channel_lines.proofs.Laws.{channels-le}
 use Rattle.config_rules.specs.Inner.{takeLine, withCounts}
 use borrow.Author.Needs.{needs}
 use Rattle.config_rules.proofs.take_counts.Statement.{statement}

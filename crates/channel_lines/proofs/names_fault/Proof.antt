@@ -1,0 +1,101 @@
+-- `names_fault` meets its contract: each return follows from the checks before it.
+use borrow.Author.Tests.{eq-eqb, ne-eqb}
+use Rattle.channel_lines.specs.Channels.{names}
+use borrow.Author.Needs.{needs}
+use Rattle.channel_lines.proofs.names_fault.Statement.{statement}
+use Rattle.channel_lines.proofs.names_fault.Tie as tie
+
+field-count-requires : tie.Need-field-count-requires
+field-count-requires c κs = search needs
+
+at-requires : tie.Need-at-requires
+at-requires c κs = search needs
+
+returns : tie.Need-returns
+unfolding names
+returns c = rw (c .at .ensures, ← c .before .before .field-count .ensures, ne-eqb _ _ (c .before .if1 .taken))
+
+field-at-requires : tie.Need-field-at-requires
+field-at-requires c κs = search needs
+
+index-fault-requires : tie.Need-index-fault-requires
+index-fault-requires c κs = search needs
+
+at-requires-2 : tie.Need-at-requires-2
+at-requires-2 c κs = search needs
+
+returns-2 : tie.Need-returns-2
+unfolding names
+returns-2 c = rw (c .at2 .ensures, ← c .before .before .before .before .before .field-count .ensures, eq-eqb _ _ (c .before .before .before .before .if1 .left), ← c .before .before .before .field-at .ensures, ← c .before .before .index-fault .ensures, ne-eqb _ 0 (c .before .if2 .taken))
+
+field-at-requires-2 : tie.Need-field-at-requires-2
+field-at-requires-2 c κs = search needs
+
+text-fault-requires : tie.Need-text-fault-requires
+text-fault-requires c κs = search needs
+
+at-requires-3 : tie.Need-at-requires-3
+at-requires-3 c κs = search needs
+
+returns-3 : tie.Need-returns-3
+unfolding names
+returns-3 c = rw (c .at3 .ensures, ← c .before .before .before .before .before .before .before .before .field-count .ensures, eq-eqb _ _ (c .before .before .before .before .before .before .before .if1 .left), ← c .before .before .before .before .before .before .field-at .ensures, ← c .before .before .before .before .before .index-fault .ensures, eq-eqb _ 0 (c .before .before .before .before .if2 .left), ← c .before .before .before .field-at2 .ensures, ← c .before .before .text-fault .ensures, ne-eqb _ 0 (c .before .if3 .taken))
+
+field-at-requires-3 : tie.Need-field-at-requires-3
+field-at-requires-3 c κs = search needs
+
+text-fault-requires-2 : tie.Need-text-fault-requires-2
+text-fault-requires-2 c κs = search needs
+
+at-requires-4 : tie.Need-at-requires-4
+at-requires-4 c κs = search needs
+
+returns-4 : tie.Need-returns-4
+unfolding names
+returns-4 c = rw (c .at4 .ensures, ← c .before .before .before .before .before .before .before .before .before .before .before .field-count .ensures, eq-eqb _ _ (c .before .before .before .before .before .before .before .before .before .before .if1 .left), ← c .before .before .before .before .before .before .before .before .before .field-at .ensures, ← c .before .before .before .before .before .before .before .before .index-fault .ensures, eq-eqb _ 0 (c .before .before .before .before .before .before .before .if2 .left), ← c .before .before .before .before .before .before .field-at2 .ensures, ← c .before .before .before .before .before .text-fault .ensures, eq-eqb _ 0 (c .before .before .before .before .if3 .left), ← c .before .before .before .field-at3 .ensures, ← c .before .before .text-fault2 .ensures, ne-eqb _ 0 (c .before .if4 .taken))
+
+field-at-requires-4 : tie.Need-field-at-requires-4
+field-at-requires-4 c κs = search needs
+
+text-fault-requires-3 : tie.Need-text-fault-requires-3
+text-fault-requires-3 c κs = search needs
+
+at-requires-5 : tie.Need-at-requires-5
+at-requires-5 c κs = search needs
+
+returns-5 : tie.Need-returns-5
+unfolding names
+returns-5 c = rw (c .at5 .ensures, ← c .before .before .before .before .before .before .before .before .before .before .before .before .before .before .field-count .ensures, eq-eqb _ _ (c .before .before .before .before .before .before .before .before .before .before .before .before .before .if1 .left), ← c .before .before .before .before .before .before .before .before .before .before .before .before .field-at .ensures, ← c .before .before .before .before .before .before .before .before .before .before .before .index-fault .ensures, eq-eqb _ 0 (c .before .before .before .before .before .before .before .before .before .before .if2 .left), ← c .before .before .before .before .before .before .before .before .before .field-at2 .ensures, ← c .before .before .before .before .before .before .before .before .text-fault .ensures, eq-eqb _ 0 (c .before .before .before .before .before .before .before .if3 .left), ← c .before .before .before .before .before .before .field-at3 .ensures, ← c .before .before .before .before .before .text-fault2 .ensures, eq-eqb _ 0 (c .before .before .before .before .if4 .left), ← c .before .before .before .field-at4 .ensures, ← c .before .before .text-fault3 .ensures, ne-eqb _ 0 (c .before .if5 .taken))
+
+at-requires-6 : tie.Need-at-requires-6
+at-requires-6 c κs = search needs
+
+returns-6 : tie.Need-returns-6
+unfolding names
+returns-6 c = rw (c .at6 .ensures, ← c .before .before .before .before .before .before .before .before .before .before .before .before .before .before .field-count .ensures, eq-eqb _ _ (c .before .before .before .before .before .before .before .before .before .before .before .before .before .if1 .left), ← c .before .before .before .before .before .before .before .before .before .before .before .before .field-at .ensures, ← c .before .before .before .before .before .before .before .before .before .before .before .index-fault .ensures, eq-eqb _ 0 (c .before .before .before .before .before .before .before .before .before .before .if2 .left), ← c .before .before .before .before .before .before .before .before .before .field-at2 .ensures, ← c .before .before .before .before .before .before .before .before .text-fault .ensures, eq-eqb _ 0 (c .before .before .before .before .before .before .before .if3 .left), ← c .before .before .before .before .before .before .field-at3 .ensures, ← c .before .before .before .before .before .text-fault2 .ensures, eq-eqb _ 0 (c .before .before .before .before .if4 .left), ← c .before .before .before .field-at4 .ensures, ← c .before .before .text-fault3 .ensures, eq-eqb _ 0 (c .before .if5 .left))
+
+pub names-fault-spec : {M : Type 1} → statement M
+names-fault-spec =
+    tie.close
+    (tie.spec
+    field-count-requires
+    at-requires
+    returns
+    field-at-requires
+    index-fault-requires
+    at-requires-2
+    returns-2
+    field-at-requires-2
+    text-fault-requires
+    at-requires-3
+    returns-3
+    field-at-requires-3
+    text-fault-requires-2
+    at-requires-4
+    returns-4
+    field-at-requires-4
+    text-fault-requires-3
+    at-requires-5
+    returns-5
+    at-requires-6
+    returns-6)

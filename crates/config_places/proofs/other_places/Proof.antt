@@ -38,7 +38,7 @@ local c = toZ-ofZ w64 (c .args .config .local) (search needs)
 returns : tie.Need-returns
 returns c =
     let s = c .before .before .before .before in
-    let start = s .before .before .before in
+    let start = s .before .before .before .before in
     let nanoseconds = s .before .before .number-place in
     let kind = s .before .number in
     let kind-place = s .number-place2 in

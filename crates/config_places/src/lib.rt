@@ -2,7 +2,6 @@
 // Each function gives exactly what the definition of its name says.
 use config_rules::Config;
 use config_rules::Moment;
-use model::Kind;
 ghost use mathlib.Core.Path.{_≡_};
 ghost use mathlib.Core.List.{_++_};
 ghost use lib.IntN.{pos};

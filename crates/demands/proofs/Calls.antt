@@ -1,4 +1,5 @@
--- DEMAND 1 on the calls: any bytes, any numbers, any buffers. That each call ends and touches nothing outside what it was lent is proved of the code; these are theorems on the definitions that its contracts cite.
+-- DEMAND 1 on the calls: any bytes, any numbers, any buffers. That each call ends and touches nothing outside what it was lent is proved of the code;
+-- these are theorems on the definitions that its contracts cite.
 --     Ends, Lent              what a lent buffer holds at the end: a refusal leaves it as it was, a yes writes what it says and nothing past it
 --     refused-unchanged       so of every call that writes
 --     zeros-beside            a refusal has zeros for row, configuration and length beside it
@@ -318,7 +319,9 @@ unfolding reasonSaid textSaid reasonOf
 reason-only n room =
     let t = text-only in
     only-bind Placed (reasonOf n) (λ text. textSaid text room)
-    (t (eqb n 1) _ _ (t (eqb n 2) _ _ (t (eqb n 3) _ _ (t (eqb n 4) _ _ (t (eqb n 5) _ _ (t (eqb n 6) _ _ (t (eqb n 7) _ _ (t (eqb n 8) _ _ (t (eqb n 9) _ _ (t (eqb n 10) _ _ (t (eqb n 11) _ _ (t (eqb n 12) _ _ (t (eqb n 13) _ _ (t (eqb n 14) _ _ (t (eqb n 15) _ _ (t (eqb n 16) _ _ (t (eqb n 17) _ _ sizes-or-kind)))))))))))))))))
+    (t (eqb n 1) _ _ (t (eqb n 2) _ _ (t (eqb n 3) _ _ (t (eqb n 4) _ _ (t (eqb n 5) _ _ (t (eqb n 6) _ _
+    (t (eqb n 7) _ _ (t (eqb n 8) _ _ (t (eqb n 9) _ _ (t (eqb n 10) _ _ (t (eqb n 11) _ _ (t (eqb n 12) _ _
+    (t (eqb n 13) _ _ (t (eqb n 14) _ _ (t (eqb n 15) _ _ (t (eqb n 16) _ _ (t (eqb n 17) _ _ sizes-or-kind)))))))))))))))))
     (λ text e. placed-only (length text) text room)
 
 -- the exported calls

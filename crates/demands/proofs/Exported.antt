@@ -11,7 +11,7 @@ use Prim.Native.Nat.{ℕ, _-_, _≤_}
 use borrow.Author.Tests.{leb-true, le-leb}
 use lib.Dec.{leb}
 use lib.IntN.{ℤ}
-use Rattle.ground.specs.Said.{says, _>>=_, _>>_}
+use Rattle.ground.specs.Said.{says, _>>_}
 use Rattle.ground.specs.Tables.{every}
 use Rattle.ground.proofs.Cases.{clash}
 use Rattle.ground.proofs.SaidLaws.{must-told, bind-told}

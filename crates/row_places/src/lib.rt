@@ -1,11 +1,10 @@
 // A row as places, whole numbers of 64 bits, as the exported calls show and take it.
 // Each function gives exactly what the definition of its name says; the laws of proofs/ say that a row is read back from the places that show it.
-use model::Kind;
 use model::Layout;
 use model::Row;
 ghost use mathlib.Core.Path.{_≡_};
 ghost use mathlib.Core.Bool.{false};
-ghost use mathlib.Core.List.{_∷_, _++_};
+ghost use mathlib.Core.List.{_∷_};
 ghost use Prim.Native.Nat.{_+_, _≤_, _<_, _^_};
 ghost use lib.IntN.{pos};
 ghost use lib.ListN.{length, getD};

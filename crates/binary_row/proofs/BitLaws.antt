@@ -1,6 +1,6 @@
 -- Laws of shifts and masks, of the bits of a word, and of statuses packed into a word.
 --     low-bit                   a mask that leaves the lowest bit
---     mask-fits, mask-test      the mask above k bits of a word finds none of them set
+--     mask-test                 the mask above k bits of a word finds none of them set
 --     packed-lt                 packed statuses are a number of so many bits
 --     pack-off, pack-on         one status more in front: a turn of the loop that packs from the last
 --     packed-bit                bit i of packed statuses is status i
@@ -8,17 +8,17 @@
 --     lt-of-div                 a number that has no bit from k on is small
 --     word-statuses             the low bits of word j are the statuses from 16 * j on
 -- Assumes nothing.
-use mathlib.Core.Path.{_≡_, sym, ap, _∙_}
+use mathlib.Core.Path.{_≡_, sym, _∙_}
 use mathlib.Core.Bool.{Bool, true, false}
 use mathlib.Core.List.{List, [], _∷_}
 use Prim.Native.Nat.{ℕ, zero, suc, _+_, _-_, _*_, _/_, _%_, _^_, _<_, _≤_}
-use native.Mathlib.Nat.{one-mul, zero-mul, suc-mul, mod-eq-of-lt, le-of-lt, lt-of-lt-of-le, pow-suc, pow-succ', zero-div, div-div-eq-div-mul, div-add-mod', mod-lt}
+use native.Mathlib.Nat.{zero-mul, suc-mul, mod-eq-of-lt, le-of-lt, lt-of-lt-of-le, lt-of-le-of-lt, pow-suc, pow-succ', zero-div, div-le-self, div-div-eq-div-mul, div-add-mod', mod-lt}
 use native.Mathlib.Omega.{arith}
 use borrow.Author.Tests.{eq-eqb, ne-eqb, eqb-true, eqb-false}
 use lib.Bits.{bitAnd, bitOr, and-mask, and-high, or-shifted}
 use lib.Dec.{eqb, lit<, lit≤}
 use lib.ListN.{length, getD, drop, length-drop}
-use lib.Pow.{pow-pos, pow-mono, pow-lt, shr-mod}
+use lib.Pow.{pow-add, pow-pos, pow-mono}
 use Rattle.ground.specs.Choice.{if_then_else_}
 use Rattle.ground.specs.Tables.{tab}
 use Rattle.ground.proofs.Cases.{on-test}
@@ -30,24 +30,17 @@ use Rattle.ground.proofs.Filled.{tab-front}
 pub low-bit : (n : ℕ) → bitAnd n 1 ≡ n % 2
 low-bit n = and-mask n 1
 
--- `1u32 << k`
-one-shl : (k : ℕ) → k < 16 → 1 * 2 ^ k % 4294967296 ≡ 2 ^ k
-one-shl k h = rw one-mul (mod-eq-of-lt (lt-of-lt-of-le (pow-lt h) (lit≤ tt)))
-
-pub mask-fits : (k : ℕ) → k < 16 → 1 * 2 ^ k % 4294967296 ≤ 65536
-mask-fits k h = rw (one-shl k h) (pow-mono (le-of-lt h))
-
 scaled-zero : (q p : ℕ) → 0 < p → eqb (q * p) 0 ≡ eqb q 0
 scaled-zero zero p h = rw zero-mul
 scaled-zero (suc q) p h =
     ne-eqb (suc q * p) 0 (λ e. omega (arith, suc-mul q p)) ∙ sym (ne-eqb (suc q) 0 (λ e. omega arith))
 
-pub mask-test : (n k : ℕ) → n < 65536 → k < 16 → eqb (bitAnd n (65536 - (1 * 2 ^ k % 4294967296))) 0 ≡ eqb (n / 2 ^ k) 0
+pub mask-test : (n k : ℕ) → n < 65536 → k < 16 → eqb (bitAnd n (65535 * 2 ^ k % 4294967296)) 0 ≡ eqb (n / 2 ^ k) 0
 mask-test n k b h =
-    let e : 16 - k + k ≡ 16 = omega arith in
-    rw (one-shl k h)
-    (ap (λ (m : ℕ). eqb (bitAnd n (2 ^ m - 2 ^ k)) 0) (sym e)
-    ∙ rw (and-high n (16 - k) k, shr-mod {n = n} (16 - k) k (rw e b)) (scaled-zero (n / 2 ^ k) (2 ^ k) (pow-pos k)))
+    let e : 65535 * 2 ^ k % 4294967296 ≡ 2 ^ (16 + k) - 2 ^ k
+    = mod-eq-of-lt (omega (arith, pow-mono (le-of-lt h))) ∙ omega (arith, pow-add 2 16 k) in
+    let small : n / 2 ^ k < 2 ^ 16 = lt-of-le-of-lt (div-le-self n (2 ^ k)) b in
+    rw (e, and-high n 16 k, mod-eq-of-lt small) (scaled-zero (n / 2 ^ k) (2 ^ k) (pow-pos k))
 
 -- a status as a bit
 bit-le : (b : Bool) → (if b then 1 else 0) ≤ 1

@@ -28,8 +28,8 @@ const WORD: usize = 2;
 
 const STATUSES: usize = 16;
 
-// The first number that is too large for a status word.
-const TOO_LARGE: u32 = 65536;
+// A status word with every bit set.
+const FULL: u32 = 65535;
 
 // The lesser of two numbers.
 fn lesser(a: usize, b: usize) -> usize
@@ -69,7 +69,7 @@ fn padding_free(d: usize, b: &[u8]) -> bool
     let from = d / STATUSES * WORD;
     let to = from + WORD;
     let word = words::word_of(&b[from..to]);
-    let mask = TOO_LARGE - (1u32 << k);
+    let mask = FULL << k;
     word & mask == 0
 }
 

@@ -5,7 +5,7 @@ use native.Mathlib.Omega.{arith}
 use borrow.Author.Needs.{needs}
 use borrow.Author.Tests.{eq-eqb, ne-eqb}
 use Rattle.words.proofs.WordLaws.{all-bytes, wordOf-part-lt}
-use Rattle.binary_row.proofs.BitLaws.{mask-fits, mask-test}
+use Rattle.binary_row.proofs.BitLaws.{mask-test}
 use Rattle.binary_row.proofs.padding_free.Statement.{statement}
 use Rattle.binary_row.proofs.padding_free.Tie as tie
 
@@ -36,9 +36,6 @@ cast-mask c = search needs
 shl-mask : tie.Need-shl-mask
 shl-mask c = search needs
 
-sub-mask : tie.Need-sub-mask
-sub-mask c = mask-fits (c .before .before .before .before .args .d % 16) (omega arith)
-
 returns-2 : tie.Need-returns-2
 returns-2 c =
     let d = c .before .before .before .before .args .d in
@@ -59,5 +56,4 @@ padding-free-spec =
     word-of-requires
     cast-mask
     shl-mask
-    sub-mask
     returns-2)

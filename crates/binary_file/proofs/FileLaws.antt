@@ -23,15 +23,16 @@ use Rattle.model.specs.declared.Layout.{Layout}
 use Rattle.model.specs.declared.Row.{Row}
 use Rattle.model.specs.Layouts.{Sized}
 use Rattle.model.specs.Rows.{misfit, trimmed}
-use Rattle.binary_row.specs.Rows.{rowSize, checkRow, bytesOf}
-use Rattle.binary_row.proofs.RowLaws.{length-row, row-back, row-fine, bytes-back}
+use Rattle.binary_row.specs.Rows.{rowSize, checkRow}
+use Rattle.binary_bytes.specs.Rows.{binaryOf}
+use Rattle.binary_bytes.proofs.RowLaws.{length-row, row-back, row-fine, bytes-back}
 use Rattle.binary_file.specs.Files.{rowBytes, checkRows, checkBinary, binaryRow, binaryFile}
 use Rattle.binary_file.proofs.Laws.{row-length, whole}
 
 -- a file of written rows
 module _ (l : Layout) (r : ℕ → Row) where
-  file-row : (i : ℕ) → i < l .rows → rowBytes l i (binaryFile l r) ≡ bytesOf l (i + 1) (r i)
-  file-row i h = part-cat (λ j. bytesOf l (j + 1) (r j)) (rowSize l) (λ j. length-row l (j + 1) (r j)) (l .rows) i h
+  file-row : (i : ℕ) → i < l .rows → rowBytes l i (binaryFile l r) ≡ binaryOf l (i + 1) (r i)
+  file-row i h = part-cat (λ j. binaryOf l (j + 1) (r j)) (rowSize l) (λ j. length-row l (j + 1) (r j)) (l .rows) i h
 
   rows-fine : Sized l → (i m : ℕ) → i + m ≡ l .rows → checkRows l (binaryFile l r) i m ≡ says tt
   unfolding checkRows
@@ -39,7 +40,7 @@ module _ (l : Layout) (r : ℕ → Row) where
   rows-fine s i (suc m) e = rw (file-row i (omega arith), row-fine l (i + 1) (r i) (omega arith)) (rows-fine s (i + 1) m (omega arith))
 
   pub length-binary : length (binaryFile l r) ≡ l .rows * rowSize l
-  length-binary = length-cat (λ j. bytesOf l (j + 1) (r j)) (rowSize l) (λ j. length-row l (j + 1) (r j)) (l .rows)
+  length-binary = length-cat (λ j. binaryOf l (j + 1) (r j)) (rowSize l) (λ j. length-row l (j + 1) (r j)) (l .rows)
 
   pub binary-accepted : Sized l → checkBinary l (binaryFile l r) ≡ says tt
   unfolding checkBinary
@@ -61,7 +62,7 @@ module _ (l : Layout) (s : List ℕ) (fine : checkBinary l s ≡ says tt) (bytes
       let q : i + suc j ≡ i + 1 + j = omega arith in
       rw q (rows-told (i + 1) m (then-told (checkRow l (i + 1) (rowBytes l i s)) (checkRows l s (i + 1) m) tt e .1) j (omega arith))
 
-  pub row-there : (i : ℕ) → i < l .rows → bytesOf l (i + 1) (binaryRow l i s) ≡ rowBytes l i s
+  pub row-there : (i : ℕ) → i < l .rows → binaryOf l (i + 1) (binaryRow l i s) ≡ rowBytes l i s
   unfolding binaryRow
   row-there i h =
       let w = whole l s fine in
@@ -71,5 +72,5 @@ module _ (l : Layout) (s : List ℕ) (fine : checkBinary l s ≡ says tt) (bytes
 
   pub binary-back : binaryFile l (λ i. binaryRow l i s) ≡ s
   binary-back =
-      cat-ext (λ i. bytesOf l (i + 1) (binaryRow l i s)) (λ i. rowBytes l i s) (l .rows) row-there
+      cat-ext (λ i. binaryOf l (i + 1) (binaryRow l i s)) (λ i. rowBytes l i s) (l .rows) row-there
       ∙ cat-part s (rowSize l) (l .rows) (whole l s fine .0)

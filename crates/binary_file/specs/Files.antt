@@ -3,13 +3,14 @@ use mathlib.Core.List.{List}
 use Prim.Native.Nat.{ℕ, zero, suc, _+_, _*_}
 use lib.Dec.{eqb}
 use lib.ListN.{length}
-use Rattle.ground.specs.Said.{Said, says, refuses, _>>_, must}
+use Rattle.ground.specs.Said.{Said, says, _>>_, must}
 use Rattle.ground.specs.Tables.{part, cat}
 use Rattle.model.specs.declared.Layout.{Layout}
 use Rattle.model.specs.declared.Row.{Row}
 use Rattle.model.specs.declared.Refusal.{Refusal}
 use Rattle.model.specs.Refusals.{refused}
-use Rattle.binary_row.specs.Rows.{rowSize, checkRow, rowOf, bytesOf}
+use Rattle.binary_row.specs.Rows.{rowSize, checkRow, rowOf}
+use Rattle.binary_bytes.specs.Rows.{binaryOf}
 
 -- the bytes of row i, counted from 0
 abbrev pub rowBytes : Layout → ℕ → List ℕ → List ℕ
@@ -38,4 +39,4 @@ binaryRow l i s = rowOf l (rowBytes l i s)
 
 -- the bytes of a file whose rows are r 0, r 1, ..
 abbrev pub binaryFile : Layout → (ℕ → Row) → List ℕ
-binaryFile l r = cat (λ i. bytesOf l (i + 1) (r i)) (l .rows)
+binaryFile l r = cat (λ i. binaryOf l (i + 1) (r i)) (l .rows)

@@ -1,15 +1,14 @@
--- Rows of the two binary kinds: what the bytes of a row say, and the bytes that a row has.
+-- Rows of the two binary kinds: what the bytes of a row say.
 use mathlib.Core.Bool.{Bool, true, false}
-use mathlib.Core.List.{List, [], _∷_, _++_}
-use Prim.Native.Nat.{ℕ, _+_, _*_, _/_, _%_, _^_, min}
+use mathlib.Core.List.{List}
+use Prim.Native.Nat.{ℕ, _+_, _*_, _/_, _%_, _^_}
 use lib.Dec.{eqb}
 use lib.IntN.{ℤ, pos}
-use lib.ListN.{getD}
 use Rattle.ground.specs.Choice.{if_then_else_}
 use Rattle.ground.specs.Said.{Said, _>>_, must}
-use Rattle.ground.specs.Tables.{part, padded, cat}
-use Rattle.words.specs.Words.{wordOf, wordBytes}
-use Rattle.words.specs.Signed.{signedOf, unsignedOf}
+use Rattle.ground.specs.Tables.{part, padded}
+use Rattle.words.specs.Words.{wordOf}
+use Rattle.words.specs.Signed.{signedOf}
 use Rattle.model.specs.declared.Layout.{Layout}
 use Rattle.model.specs.declared.Row.{Row}
 use Rattle.model.specs.declared.Refusal.{Refusal}
@@ -78,38 +77,3 @@ rowOf l b =
       samples = padded (sampleAt (widthOf (l .kind)) (halfOf (l .kind)) (samplesPart l b)) (l .analogs) 96 (pos 0);
       statuses = padded (statusAt (wordsPart l b)) (l .statuses) 256 false;
     }
-
--- the bytes of sample i, of w bytes with half h
-abbrev pub sampleBytes : ℕ → ℕ → List ℤ → ℕ → List ℕ
-sampleBytes w h zs i = wordBytes w (unsignedOf h (getD zs i (pos 0)))
-
--- the word of statuses: the first in the lowest bit
-unfoldable pub packed : List Bool → ℕ
-packed [] = 0
-packed (b ∷ s) = (if b then 1 else 0) + 2 * packed s
-
--- where the statuses of word j, of d in all, end
-abbrev pub wordEnd : ℕ → ℕ → ℕ
-wordEnd d j = min (j * 16 + 16) d
-
--- the bytes of status word j of the first d statuses
-abbrev pub wordBytesAt : ℕ → List Bool → ℕ → List ℕ
-wordBytesAt d s j = wordBytes 2 (packed (part (j * 16) (wordEnd d j) s))
-
--- the bytes of the first a samples, of w bytes with half h
-abbrev pub samplesBytes : ℕ → ℕ → ℕ → List ℤ → List ℕ
-samplesBytes w h a zs = cat (sampleBytes w h zs) a
-
--- the bytes of the words of the first d statuses
-abbrev pub wordsBytes : ℕ → List Bool → List ℕ
-wordsBytes d s = cat (wordBytesAt d s) (wordsOf d)
-
--- the bytes of a row's number and timestamp
-abbrev pub headBytes : ℕ → ℕ → List ℕ
-headBytes n t = wordBytes 4 n ++ wordBytes 4 t
-
--- the bytes of a row with number n; its places past A and D are not read
-unfoldable pub bytesOf : Layout → ℕ → Row → List ℕ
-bytesOf l n r =
-    headBytes n (r .time)
-    ++ (samplesBytes (widthOf (l .kind)) (halfOf (l .kind)) (l .analogs) (r .samples) ++ wordsBytes (l .statuses) (r .statuses))

@@ -27,6 +27,7 @@ use Rattle.model.specs.Rows.{trimmed}
 use Rattle.model.proofs.FitLaws.{misfit-all, all-misfit}
 use Rattle.model.proofs.LayoutLaws.{sized}
 use Rattle.binary_row.specs.Rows as binary
+use Rattle.binary_bytes.specs.Rows.{binaryOf}
 use Rattle.binary_row.proofs.RowLaws as laws
 use Rattle.binary_file.specs.Files.{rowBytes, checkBinary, binaryRow, binaryFile}
 use Rattle.binary_file.proofs.FileLaws.{binary-accepted, binary-reads-back, binary-back}
@@ -68,7 +69,7 @@ module _ (l : Layout) (other : l .kind ≡ Ascii → ⊥) where
       rw (
         binary-kind (l .kind) mark [] other,
         append-nil,
-        cat-ext (λ i. bytesOf l (i + 1) (r i)) (λ i. binary.bytesOf l (i + 1) (r i)) (l .rows) (λ i h. bytes-binary l other (i + 1) (r i)),
+        cat-ext (λ i. bytesOf l (i + 1) (r i)) (λ i. binaryOf l (i + 1) (r i)) (l .rows) (λ i h. bytes-binary l other (i + 1) (r i)),
       )
 
 -- a file of written rows
@@ -114,6 +115,6 @@ module _ (l : Layout) (s : List ℕ) (bytes : every isByte s ≡ true) where
   file-back e fine =
       let f : checkBinary l s ≡ says tt = rw (binary-kind (l .kind) (checkText l s) (checkBinary l s) e) at fine in
       file-binary l e (rowAt l s)
-      ∙ cat-ext (λ i. binary.bytesOf l (i + 1) (rowAt l s i)) (λ i. binary.bytesOf l (i + 1) (binaryRow l i s)) (l .rows)
+      ∙ cat-ext (λ i. binaryOf l (i + 1) (rowAt l s i)) (λ i. binaryOf l (i + 1) (binaryRow l i s)) (l .rows)
       (λ i h. rw (binary-kind (l .kind) (textRow l i s) (binaryRow l i s) e))
       ∙ binary-back l s f bytes

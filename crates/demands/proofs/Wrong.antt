@@ -49,7 +49,8 @@ use Rattle.model.specs.Refusals.{refused}
 use Rattle.model.specs.Rows.{zeroRow, misfit}
 use Rattle.config.specs.Config.{readConfig}
 use Rattle.binary_row.specs.Rows as binary
-use Rattle.binary_row.specs.Rows.{rowSize, packed}
+use Rattle.binary_bytes.specs.Rows.{binaryOf, packed}
+use Rattle.binary_row.specs.Rows.{rowSize}
 use Rattle.binary_file.specs.Files as binary_file
 use Rattle.binary_file.specs.Files.{checkBinary, binaryRow}
 use Rattle.ascii_row.specs.Fields.{readTime, readSample, isStatus, timeIn, sampleIn, statusIn}
@@ -121,7 +122,7 @@ computed :
     × (fitRow (layout 1 0 2 Binary) 2 (rowAt (layout 1 0 2 Ascii) both-unfit 1) ≡ refuses (refused 16 2 3)))
 unfolding checkFile showRow writeSaid isSized hasRow fileFine rowAt checkText ascii_file.checkRows checkRow isEnding scanLine firstLine afterRows textRow fieldCount afterFields fieldAt
     checkLine checkNumber checkFields fieldFine ascii.rowOf readTime readSample isStatus timeIn sampleIn statusIn lengthIn isDigit numberOf readCount signLength hasMinus withSign signedNumber readWhole fitsKind
-    changeSaid fitRows misfitOf misfit rowSize changed fileOf endMark bytesOf binary.bytesOf packed wordBytes wordOf signedOf unsignedOf
+    changeSaid fitRows misfitOf misfit rowSize changed fileOf endMark bytesOf binaryOf packed wordBytes wordOf signedOf unsignedOf
     checkBinary binary_file.checkRows binaryRow binary.rowOf binary.checkRow decimalIn decimal plain lineOf textOf
 computed = (
   (refl, refl, refl, refl, refl),

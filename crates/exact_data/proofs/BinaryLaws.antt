@@ -27,9 +27,11 @@ use Rattle.model.specs.Kinds.{widthOf, halfOf}
 use Rattle.model.specs.Layouts.{Sized}
 use Rattle.model.specs.Rows.{trimmed}
 use Rattle.model.proofs.KindLaws.{width-pos}
-use Rattle.binary_row.specs.Rows.{wordsOf, samplesEnd, rowSize, numberOfRow, samplesPart, wordsPart, sampleAt, wordAt, statusAt, paddingFree, checkRow, rowOf, bytesOf}
+use Rattle.binary_row.specs.Rows.{wordsOf, samplesEnd, rowSize, numberOfRow, samplesPart, wordsPart, sampleAt, wordAt, statusAt, paddingFree, checkRow, rowOf}
+use Rattle.binary_bytes.specs.Rows.{binaryOf}
 use Rattle.binary_row.proofs.SizeLaws.{sizes}
 use Rattle.binary_row.proofs.RowLaws as laws
+use Rattle.binary_bytes.proofs.RowLaws as written
 use Rattle.binary_file.specs.Files.{rowBytes, checkBinary, binaryRow, binaryFile}
 use Rattle.binary_file.proofs.Laws.{row-length, whole}
 use Rattle.binary_file.proofs.FileLaws.{binary-accepted, row-there}
@@ -148,7 +150,7 @@ module _ (l : Layout) (r : ℕ → Row) (s : List ℕ) (sized : Sized l) (bytes 
             row-exactly l (i + 1) (r i) b (bytes-part (i * rowSize l) (i * rowSize l + rowSize l) s bytes) .1
             (record {
               size = row-length l s i long h;
-              fine = ap (checkRow l (i + 1)) (sym (row-there l s e bytes i h)) ∙ laws.row-fine l (i + 1) (binaryRow l i s) (omega (arith, sized .rows));
+              fine = ap (checkRow l (i + 1)) (sym (row-there l s e bytes i h)) ∙ written.row-fine l (i + 1) (binaryRow l i s) (omega (arith, sized .rows));
               row = rows i h;
             });
       }
@@ -161,18 +163,18 @@ module _ (l : Layout) (r : ℕ → Row) (s : List ℕ) (sized : Sized l) (bytes 
     piece-reads : (i : ℕ) → i < l .rows → Reads l (i + 1) (r i) (t .bytes i)
     piece-reads i h = row-exactly l (i + 1) (r i) (t .bytes i) (piece-bytes i h) .0 (t .each i h)
 
-    piece-is : (i : ℕ) → i < l .rows → t .bytes i ≡ bytesOf l (i + 1) (r i)
+    piece-is : (i : ℕ) → i < l .rows → t .bytes i ≡ binaryOf l (i + 1) (r i)
     piece-is i h =
         let p = piece-reads i h in
-        sym (laws.bytes-back l (i + 1) (t .bytes i) (p .size) (piece-bytes i h) (p .fine)) ∙ ap (bytesOf l (i + 1)) (p .row)
+        sym (written.bytes-back l (i + 1) (t .bytes i) (p .size) (piece-bytes i h) (p .fine)) ∙ ap (binaryOf l (i + 1)) (p .row)
 
     file-is : s ≡ binaryFile l r
-    file-is = t .whole ∙ cat-ext (t .bytes) (λ i. bytesOf l (i + 1) (r i)) (l .rows) piece-is
+    file-is = t .whole ∙ cat-ext (t .bytes) (λ i. binaryOf l (i + 1) (r i)) (l .rows) piece-is
 
     piece-there : (i : ℕ) → i < l .rows → rowBytes l i s ≡ t .bytes i
     piece-there i h =
         ap (rowBytes l i) file-is
-        ∙ part-cat (λ j. bytesOf l (j + 1) (r j)) (rowSize l) (λ j. laws.length-row l (j + 1) (r j)) (l .rows) i h
+        ∙ part-cat (λ j. binaryOf l (j + 1) (r j)) (rowSize l) (λ j. written.length-row l (j + 1) (r j)) (l .rows) i h
         ∙ sym (piece-is i h)
 
     file-from : (checkBinary l s ≡ says tt) × ((i : ℕ) → i < l .rows → binaryRow l i s ≡ r i)

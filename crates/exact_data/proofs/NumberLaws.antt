@@ -28,8 +28,9 @@ use Rattle.words.proofs.WordLaws.{wordOf-part-lt}
 use Rattle.words.proofs.SignedLaws.{signed-low, signed-high, half-twice}
 use Rattle.model.specs.declared.Kind.{Kind}
 use Rattle.model.specs.Kinds.{lowestOf, highestOf, fitsKind}
-use Rattle.binary_row.specs.Rows.{wordsOf, wordAt, bitOf, statusAt, paddingFree, packed}
-use Rattle.binary_row.proofs.BitLaws.{packed-bits, lt-of-div}
+use Rattle.binary_row.specs.Rows.{wordsOf, wordAt, bitOf, statusAt, paddingFree}
+use Rattle.binary_bytes.specs.Rows.{packed}
+use Rattle.binary_bytes.proofs.PackLaws.{packed-bits, lt-of-div}
 use Rattle.paper.specs.Data.{InRange, lowFirst, TwosComplement}
 
 pub low-first : (l : List ℕ) → lowFirst l ≡ wordOf l

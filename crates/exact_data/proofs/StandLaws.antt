@@ -30,8 +30,9 @@ use Rattle.model.specs.Rows.{trimmed}
 use Rattle.model.proofs.FitLaws.{misfit-all, all-misfit}
 use Rattle.text.specs.Lines.{lineBytes}
 use Rattle.binary_row.specs.Rows as binary
+use Rattle.binary_bytes.specs.Rows.{binaryOf}
 use Rattle.binary_row.proofs.SizeLaws.{sizes}
-use Rattle.binary_row.proofs.RowLaws as laws
+use Rattle.binary_bytes.proofs.RowLaws as written
 use Rattle.binary_file.specs.Files.{rowBytes, binaryRow}
 use Rattle.ascii_row.specs.Rows.{rowOf}
 use Rattle.ascii_plain.specs.Rows.{lineOf, textOf}
@@ -134,12 +135,12 @@ module _ (l : Layout) (s : List ℕ) (n : ℕ) (r : Row) (q : ℕ → Row) (size
   stands-binary e bytes t =
       let m = n - 1 in
       let z = binary.rowSize l in
-      let b = binary.bytesOf l n r in
+      let b = binaryOf l n r in
       let long : length (st .before) ≡ m * z = as-rows (l .kind) e (st .rows) ∙ rw (sizes l) in
       let here : s ≡ st .before ++ (b ++ st .after) = st .whole ∙ ap (λ (x : List ℕ). st .before ++ (x ++ st .after)) (bytes-binary l e n r) in
       let f : m * z + z - m * z ≡ z = omega arith in
-      let found : rowBytes l m s ≡ b = rw (here, f, drop-at (st .before) (b ++ st .after) (m * z) long) (take-at b (st .after) z (laws.length-row l n r)) in
-      sym (binary-exactly l q s size bytes .1 t .1 m (omega arith)) ∙ ap (binary.rowOf l) found ∙ laws.row-back l n r (w .all) (w .time)
+      let found : rowBytes l m s ≡ b = rw (here, f, drop-at (st .before) (b ++ st .after) (m * z) long) (take-at b (st .after) z (written.length-row l n r)) in
+      sym (binary-exactly l q s size bytes .1 t .1 m (omega arith)) ∙ ap (binary.rowOf l) found ∙ written.row-back l n r (w .all) (w .time)
     where
       as-rows : (k : Kind) → (k ≡ Ascii → ⊥) → RowsOf k l (n - 1) (st .before) → length (st .before) ≡ (n - 1) * page.rowSize l
       as-rows Ascii e x = absurd (e refl)
@@ -176,14 +177,14 @@ module _ (l : Layout) (r : ℕ → Row) (size : Sized l) (w : (i : ℕ) → i < 
   unfolding misfitOf
   binary-stand end e h =
       record {
-        bytes = λ i. binary.bytesOf l (i + 1) (r i);
-        whole = rw (h, append-nil) (cat-ext (λ i. bytesOf l (i + 1) (r i)) (λ i. binary.bytesOf l (i + 1) (r i)) (l .rows) (λ i k. bytes-binary l e (i + 1) (r i)));
+        bytes = λ i. binaryOf l (i + 1) (r i);
+        whole = rw (h, append-nil) (cat-ext (λ i. bytesOf l (i + 1) (r i)) (λ i. binaryOf l (i + 1) (r i)) (l .rows) (λ i k. bytes-binary l e (i + 1) (r i)));
         each = λ i k.
-            row-exactly l (i + 1) (trimmed l (r i)) (binary.bytesOf l (i + 1) (r i)) (laws.bytes-row l (i + 1) (r i)) .1
+            row-exactly l (i + 1) (trimmed l (r i)) (binaryOf l (i + 1) (r i)) (written.bytes-row l (i + 1) (r i)) .1
             (record {
-              size = laws.length-row l (i + 1) (r i);
-              fine = laws.row-fine l (i + 1) (r i) (omega (arith, size .rows));
-              row = laws.row-back l (i + 1) (r i) (w i k .all) (w i k .time);
+              size = written.length-row l (i + 1) (r i);
+              fine = written.row-fine l (i + 1) (r i) (omega (arith, size .rows));
+              row = written.row-back l (i + 1) (r i) (w i k .all) (w i k .time);
             });
       }
 
@@ -199,7 +200,7 @@ module _ (l : Layout) (r : ℕ → Row) (size : Sized l) (w : (i : ℕ) → i < 
   row-bytes i =
       by-kind (l .kind)
       (λ e. rw (bytes-text l e (i + 1) (r i)) (text-bytes i))
-      (λ e. rw (bytes-binary l e (i + 1) (r i)) (laws.bytes-row l (i + 1) (r i)))
+      (λ e. rw (bytes-binary l e (i + 1) (r i)) (written.bytes-row l (i + 1) (r i)))
 
   pub bytes-stand : (end : List ℕ) → EndingOf (l .kind) end → every isByte (rows ++ end) ≡ true
   bytes-stand end h = every-append isByte rows end (every-cat isByte (λ i. bytesOf l (i + 1) (r i)) (l .rows) (λ i k. row-bytes i)) (go (l .kind) h)

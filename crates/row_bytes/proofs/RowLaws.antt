@@ -15,7 +15,8 @@ use Rattle.model.specs.declared.Layout.{Layout}
 use Rattle.model.specs.declared.Row.{Row}
 use Rattle.model.specs.Rows.{trimmed}
 use Rattle.binary_row.specs.Rows as binary
-use Rattle.binary_row.proofs.RowLaws.{length-row, unread-bytes}
+use Rattle.binary_bytes.specs.Rows.{binaryOf}
+use Rattle.binary_bytes.proofs.RowLaws.{length-row, unread-bytes}
 use Rattle.ascii_plain.specs.Rows.{textOf, textLength}
 use Rattle.ascii_plain.proofs.LengthLaws.{length-text}
 use Rattle.ascii_plain.proofs.LineLaws.{unread-text}
@@ -25,11 +26,11 @@ use Rattle.row_bytes.proofs.KindLaws.{text-kind, binary-kind, by-kind}
 
 pub bytes-text : (l : Layout) → l .kind ≡ Ascii → (n : ℕ) (r : Row) → bytesOf l n r ≡ textOf l n r
 unfolding bytesOf
-bytes-text l text n r = text-kind (l .kind) (textOf l n r) (binary.bytesOf l n r) text
+bytes-text l text n r = text-kind (l .kind) (textOf l n r) (binaryOf l n r) text
 
-pub bytes-binary : (l : Layout) → (l .kind ≡ Ascii → ⊥) → (n : ℕ) (r : Row) → bytesOf l n r ≡ binary.bytesOf l n r
+pub bytes-binary : (l : Layout) → (l .kind ≡ Ascii → ⊥) → (n : ℕ) (r : Row) → bytesOf l n r ≡ binaryOf l n r
 unfolding bytesOf
-bytes-binary l other n r = binary-kind (l .kind) (textOf l n r) (binary.bytesOf l n r) other
+bytes-binary l other n r = binary-kind (l .kind) (textOf l n r) (binaryOf l n r) other
 
 pub length-bytes : (l : Layout) (n : ℕ) (r : Row) → lengthOf l n r ≡ length (bytesOf l n r)
 unfolding lengthOf

@@ -5,7 +5,7 @@ use Rattle.model.specs.declared.Kind.{Kind}
 use Rattle.model.specs.declared.Kind.the-variants.{Ascii, Binary, Binary32}
 use Rattle.model.specs.declared.Layout.{Layout}
 use Rattle.model.specs.declared.Row.{Row}
-use Rattle.binary_row.specs.Rows as binary
+use Rattle.binary_bytes.specs.Rows.{binaryOf}
 use Rattle.ascii_plain.specs.Rows as plain
 
 -- what is said by the kind; the two binary kinds differ by the layout alone
@@ -16,4 +16,4 @@ byKind Binary32 text binary = binary
 
 -- the bytes that row n is written in; its places past A and D are not read
 unfoldable pub bytesOf : Layout → ℕ → Row → List ℕ
-bytesOf l n r = byKind (l .kind) (plain.textOf l n r) (binary.bytesOf l n r)
+bytesOf l n r = byKind (l .kind) (plain.textOf l n r) (binaryOf l n r)

@@ -46,7 +46,7 @@ pub fn put_row(layout: Layout, n: u32, row: Row, d: &mut [u8])
             ascii_plain::put_text(layout, n, row, d);
         }
         Kind::Binary | Kind::Binary32 => {
-            binary_row::put_row(layout, n, row, d);
+            binary_bytes::put_row(layout, n, row, d);
         }
     }
 }

@@ -4,6 +4,7 @@ use Rattle.row_bytes.specs.Rows.{bytesOf}
 use Rattle.row_bytes.specs.Inner.{lengthOf}
 use Rattle.ascii_plain.specs.Rows as plain
 use Rattle.binary_row.specs.Rows as binary
+use Rattle.binary_bytes.specs.Rows.{binaryOf}
 use mathlib.Core.Path.{sym, _∙_}
 use borrow.Author.Needs.{needs}
 use Rattle.row_bytes.proofs.put_row.Statement.{statement}
@@ -36,7 +37,7 @@ returns-2 : tie.Need-returns-2
 unfolding bytesOf
 returns-2 c =
     let a = c .before .before .before .before .before .before .args in
-    c .before .before .put-row .ensures ∙ sym (binary-arm (a .layout .kind) (plain.textOf (a .layout) (a .n) (a .row)) (binary.bytesOf (a .layout) (a .n) (a .row)) (c .before .before .before .before .match .keys2))
+    c .before .before .put-row .ensures ∙ sym (binary-arm (a .layout .kind) (plain.textOf (a .layout) (a .n) (a .row)) (binaryOf (a .layout) (a .n) (a .row)) (c .before .before .before .before .match .keys2))
 
 pub put-row-spec : {M : Type 1} → statement M
 put-row-spec =

@@ -1,4 +1,4 @@
--- `binary_row::put_head` meets its contract: the number fills the first part, and the timestamp the second.
+-- `binary_bytes::put_head` meets its contract: the number fills the first part, and the timestamp the second.
 use mathlib.Core.Path.{_≡_, sym, ap, _∙_}
 use Prim.Native.Nat.{ℕ}
 use native.Mathlib.Omega.{arith}
@@ -8,8 +8,8 @@ use lib.Seq.{length-take-le}
 use Rattle.ground.proofs.Parts.{halves, half-length}
 use Rattle.words.specs.Words.{wordBytes}
 use Rattle.words.proofs.WordLaws.{length-wordBytes}
-use Rattle.binary_row.proofs.put_head.Statement.{statement}
-use Rattle.binary_row.proofs.put_head.Tie as tie
+use Rattle.binary_bytes.proofs.put_head.Statement.{statement}
+use Rattle.binary_bytes.proofs.put_head.Tie as tie
 
 slice-relend-prefix-put-word : tie.Need-slice-relend-prefix-put-word
 slice-relend-prefix-put-word c = search needs

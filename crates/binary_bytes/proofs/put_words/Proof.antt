@@ -1,4 +1,4 @@
--- `binary_row::put_words` meets its contract. The loop's invariant: the slice begins with the bytes of j words, and the rest is as it was.
+-- `binary_bytes::put_words` meets its contract. The loop's invariant: the slice begins with the bytes of j words, and the rest is as it was.
 -- The measure is the words that are left.
 use mathlib.Core.Path.{_≡_, ap, _∙_}
 use mathlib.Core.List.{_++_, append-nil}
@@ -11,9 +11,10 @@ use Rattle.ground.specs.Tables.{part, cat}
 use Rattle.ground.proofs.Tables.{cat-turn}
 use Rattle.words.specs.Words.{wordBytes}
 use Rattle.words.proofs.WordLaws.{length-wordBytes, put-part}
-use Rattle.binary_row.specs.Rows.{wordsOf, packed, wordEnd, wordBytesAt}
-use Rattle.binary_row.proofs.put_words.Statement.{statement}
-use Rattle.binary_row.proofs.put_words.Tie as tie
+use Rattle.binary_row.specs.Rows.{wordsOf}
+use Rattle.binary_bytes.specs.Rows.{packed, wordEnd, wordBytesAt}
+use Rattle.binary_bytes.proofs.put_words.Statement.{statement}
+use Rattle.binary_bytes.proofs.put_words.Tie as tie
 
 abbrev Inv-loop : tie.InvT-loop
 Inv-loop s count d₀ words j₀ d j = (j ≤ words) × (length d ≡ length d₀) × (d ≡ cat (wordBytesAt count s) j ++ drop (j * 2) d₀)

@@ -1,4 +1,4 @@
--- `binary_row::put_row` meets its contract: number and timestamp fill the first part, samples and words the second.
+-- `binary_bytes::put_row` meets its contract: number and timestamp fill the first part, samples and words the second.
 use mathlib.Core.Path.{_≡_, refl, sym, _∙_}
 use Prim.Native.Nat.{_-_}
 use native.Mathlib.Omega.{arith}
@@ -6,10 +6,10 @@ use borrow.Author.Needs.{needs}
 use lib.ListN.{length, take}
 use lib.Seq.{length-take-le}
 use Rattle.ground.proofs.Parts.{halves, half-length}
-use Rattle.binary_row.specs.Rows.{bytesOf}
+use Rattle.binary_bytes.specs.Rows.{binaryOf}
 use Rattle.binary_row.proofs.SizeLaws.{sizes}
-use Rattle.binary_row.proofs.put_row.Statement.{statement}
-use Rattle.binary_row.proofs.put_row.Tie as tie
+use Rattle.binary_bytes.proofs.put_row.Statement.{statement}
+use Rattle.binary_bytes.proofs.put_row.Tie as tie
 
 cast-a : tie.Need-cast-a
 cast-a c = search needs
@@ -67,7 +67,7 @@ same-length : tie.Need-same-length
 same-length c = search needs
 
 returns : tie.Need-returns
-unfolding bytesOf
+unfolding binaryOf
 returns c =
     let s = c .before .before .before .before .before .before .before .before .before .before .before .before .before .before .before in
     let f = c .before .before .before .before .before .before .before .before .put-head in

@@ -27,9 +27,11 @@ use Rattle.words.specs.Words.{wordOf, isByte}
 use Rattle.words.specs.Signed.{half, signedOf}
 use Rattle.words.proofs.WordLaws.{bytes-part, part-word, wordOf-part-lt, length-wordBytes, bytes-wordBytes, word-back}
 use Rattle.words.proofs.SignedLaws.{sample-back, sample-bytes-back}
-use Rattle.binary_row.specs.Rows.{wordsOf, sampleAt, wordAt, statusAt, paddingFree, packed, wordEnd, sampleBytes, wordBytesAt, samplesBytes, wordsBytes}
+use Rattle.binary_row.specs.Rows.{wordsOf, sampleAt, wordAt, statusAt, paddingFree}
+use Rattle.binary_bytes.specs.Rows.{packed, wordEnd, sampleBytes, wordBytesAt, samplesBytes, wordsBytes}
 use Rattle.ground.proofs.Filled.{part-padded, getD-padded}
-use Rattle.binary_row.proofs.BitLaws.{packed-lt, packed-bit, packed-bits, lt-of-div, word-statuses}
+use Rattle.binary_row.proofs.BitLaws.{word-statuses}
+use Rattle.binary_bytes.proofs.PackLaws.{packed-lt, packed-bit, packed-bits, lt-of-div}
 
 -- samples of any width
 pub length-samples : (w h a : ℕ) (zs : List ℤ) → length (samplesBytes w h a zs) ≡ a * w

@@ -1,14 +1,14 @@
--- `binary_row::pack_word` meets its contract. The loop's invariant: the word is that of the statuses from i on. The measure is i.
+-- `binary_bytes::pack_word` meets its contract. The loop's invariant: the word is that of the statuses from i on. The measure is i.
 use mathlib.Core.Path.{_≡_, _∙_}
 use Prim.Native.Nat.{_≤_}
 use native.Mathlib.Omega.{arith}
 use borrow.Author.Needs.{needs}
 use lib.ListN.{length, drop}
 use lib.Seq.{drop-length}
-use Rattle.binary_row.specs.Rows.{packed}
-use Rattle.binary_row.proofs.BitLaws.{pack-off, pack-on}
-use Rattle.binary_row.proofs.pack_word.Statement.{statement}
-use Rattle.binary_row.proofs.pack_word.Tie as tie
+use Rattle.binary_bytes.specs.Rows.{packed}
+use Rattle.binary_bytes.proofs.PackLaws.{pack-off, pack-on}
+use Rattle.binary_bytes.proofs.pack_word.Statement.{statement}
+use Rattle.binary_bytes.proofs.pack_word.Tie as tie
 
 abbrev Inv-loop : tie.InvT-loop
 Inv-loop s word₀ i₀ word i = (i ≤ length s) × (word ≡ packed (drop i s))

@@ -1,4 +1,4 @@
--- `binary_row::put_body` meets its contract: the samples fill the first part, and the words the second.
+-- `binary_bytes::put_body` meets its contract: the samples fill the first part, and the words the second.
 use mathlib.Core.Path.{_≡_, refl, sym, _∙_}
 use Prim.Native.Nat.{_*_, _-_, _+_}
 use native.Mathlib.Omega.{arith}
@@ -6,9 +6,9 @@ use borrow.Author.Needs.{needs}
 use lib.ListN.{length, take}
 use lib.Seq.{length-take-le}
 use Rattle.ground.proofs.Parts.{halves, half-length}
 use Rattle.binary_row.specs.Rows.{wordsOf}
-use Rattle.binary_row.proofs.put_body.Statement.{statement}
-use Rattle.binary_row.proofs.put_body.Tie as tie
+use Rattle.binary_bytes.proofs.put_body.Statement.{statement}
+use Rattle.binary_bytes.proofs.put_body.Tie as tie
 
 width-requires : tie.Need-width-requires
 width-requires c κs = search needs

@@ -1,4 +1,4 @@
--- `binary_row::put_samples` meets its contract. The loop's invariant: the slice begins with the bytes of i samples, and the rest is as it was.
+-- `binary_bytes::put_samples` meets its contract. The loop's invariant: the slice begins with the bytes of i samples, and the rest is as it was.
 -- The measure is what is left of a.
 use mathlib.Core.Path.{_≡_, refl, ap, _∙_}
 use mathlib.Core.List.{_++_, append-nil}
@@ -18,10 +18,10 @@ use Rattle.words.specs.Words.{wordBytes}
 use Rattle.words.specs.Signed.{unsignedOf}
 use Rattle.words.proofs.WordLaws.{length-wordBytes, put-part}
 use Rattle.model.proofs.KindLaws.{fits-size, half-le}
-use Rattle.binary_row.specs.Rows.{sampleBytes}
+use Rattle.binary_bytes.specs.Rows.{sampleBytes}
 use Rattle.model.proofs.FitLaws.{misfit-all}
-use Rattle.binary_row.proofs.put_samples.Statement.{statement}
-use Rattle.binary_row.proofs.put_samples.Tie as tie
+use Rattle.binary_bytes.proofs.put_samples.Statement.{statement}
+use Rattle.binary_bytes.proofs.put_samples.Tie as tie
 
 abbrev Inv-loop : tie.InvT-loop
 Inv-loop zs a d₀ width half i₀ d i = (i ≤ a) × (length d ≡ length d₀) × (d ≡ cat (sampleBytes width half zs) i ++ drop (i * width) d₀)

@@ -1,8 +1,8 @@
 -- Laws of the table of reasons.
 --     piece, piece-within        piece i of pieces in a row lies between where it and where the next one begin, and within the row
 --     table-length, in-table     how long the table is, and where the text of number i + 1 lies in it
---     told                       what is said for a number from 1 to 17 is its text in the table
---     untold                     and every other number is refused with 10
+--     reason-told                what is said for a number from 1 to 17 is its text in the table
+--     reason-untold              and every other number is refused with 10
 -- Assumes nothing.
 use mathlib.Core.Path.{_≡_, refl, ap, _∙_}
 use mathlib.Core.Bool.{Bool, true, false}
@@ -22,7 +22,7 @@ use Rattle.ground.proofs.Tables.{cat-split, getD-tab}
 use Rattle.model.specs.declared.Refusal.{Refusal}
 use Rattle.model.specs.Refusals.{refused}
 use Rattle.reasons.specs.Reasons.{reasonOf, textSaid, reasonSaid}
-use Rattle.reasons.specs.Inner.{textIn, textOf, allTexts, startOf}
+use Rattle.reasons.specs.Inner.{textIn, reasonText, reasonTexts, reasonStart}
 
 module _ {A : Type 0} (f : ℕ → List A) (n i : ℕ) (h : i < n) where
   -- the pieces up to piece i, and those after it
@@ -47,33 +47,33 @@ module _ {A : Type 0} (f : ℕ → List A) (n i : ℕ) (h : i < n) where
       ∙ ap (λ l. part (length (cat f i)) (length (cat f (i + 1))) l) here
       ∙ part-back (length (cat f i)) (length (cat f (i + 1))) (cat f i) (f i) refl next
 
-pub table-length : length allTexts ≡ 518
-unfolding allTexts textOf reasonOf
+pub table-length : length reasonTexts ≡ 518
+unfolding reasonTexts reasonText reasonOf
 table-length = refl
 
 -- where the text of number i + 1 lies in the table
-pub in-table : (i : ℕ) → i < 17 → (startOf i ≤ startOf (i + 1)) × (startOf (i + 1) ≤ length allTexts) × (part (startOf i) (startOf (i + 1)) allTexts ≡ textOf i)
-unfolding startOf allTexts
-in-table i h = let w = piece-within textOf 17 i h in (w .0, w .1, piece textOf 17 i h)
+pub in-table : (i : ℕ) → i < 17 → (reasonStart i ≤ reasonStart (i + 1)) × (reasonStart (i + 1) ≤ length reasonTexts) × (part (reasonStart i) (reasonStart (i + 1)) reasonTexts ≡ reasonText i)
+unfolding reasonStart reasonTexts
+in-table i h = let w = piece-within reasonText 17 i h in (w .0, w .1, piece reasonText 17 i h)
 
 -- the answer is a text
-abbrev said : {R A : Type 0} → Said R A → Bool
-said (says a) = true
-said (refuses r) = false
+abbrev isSaid : {R A : Type 0} → Said R A → Bool
+isSaid (says a) = true
+isSaid (refuses r) = false
 
-said-text : (x : Said Refusal (List ℕ)) → said x ≡ true → x ≡ says (textIn x)
+said-text : (x : Said Refusal (List ℕ)) → isSaid x ≡ true → x ≡ says (textIn x)
 said-text (says text) e = refl
 said-text (refuses r) e = cc
 
 -- each of the numbers from 1 to 17 has a text
-all-said : every (λ i. said (reasonOf (i + 1))) (tab (λ i. i) 17) ≡ true
+all-said : every (λ i. isSaid (reasonOf (i + 1))) (tab (λ i. i) 17) ≡ true
 unfolding reasonOf
 all-said = refl
 
-has-text : (i : ℕ) → i < 17 → reasonOf (i + 1) ≡ says (textOf i)
-unfolding textOf
+has-text : (i : ℕ) → i < 17 → reasonOf (i + 1) ≡ says (reasonText i)
+unfolding reasonText
 has-text i h =
-    let e = every-at (λ j. said (reasonOf (j + 1))) (tab (λ j. j) 17) i 0 all-said h in
+    let e = every-at (λ j. isSaid (reasonOf (j + 1))) (tab (λ j. j) 17) i 0 all-said h in
     said-text (reasonOf (i + 1)) (rw (getD-tab (λ j. j) 17 i 0 h) at e)
 
 no-text : (n : ℕ) → (n < 1) ⊎ (17 < n) → reasonOf n ≡ refuses (refused 10 0 0)
@@ -100,10 +100,10 @@ no-text n h =
       o 16 (omega arith),
     )
 
-pub told : (i room : ℕ) → i < 17 → reasonSaid (i + 1) room ≡ textSaid (textOf i) room
+pub reason-told : (i room : ℕ) → i < 17 → reasonSaid (i + 1) room ≡ textSaid (reasonText i) room
 unfolding reasonSaid
-told i room h = rw (has-text i h)
+reason-told i room h = rw (has-text i h)
 
-pub untold : (n room : ℕ) → (n < 1) ⊎ (17 < n) → reasonSaid n room ≡ refuses (refused 10 0 0)
+pub reason-untold : (n room : ℕ) → (n < 1) ⊎ (17 < n) → reasonSaid n room ≡ refuses (refused 10 0 0)
 unfolding reasonSaid
-untold n room h = rw (no-text n h)
+reason-untold n room h = rw (no-text n h)

@@ -1,4 +1,4 @@
--- NOTHING TO BELIEVE HERE: what the functions say that find a text in the table; the law `told` (proofs/Laws.antt) says that its texts are those of `reasonOf`.
+-- NOTHING TO BELIEVE HERE: what the functions say that find a text in the table; the law `reason-told` (proofs/Laws.antt) says that its texts are those of `reasonOf`.
 use mathlib.Core.List.{List, []}
 use Prim.Native.Nat.{ℕ, _+_}
 use lib.ListN.{length}
@@ -13,13 +13,13 @@ textIn (says text) = text
 textIn (refuses r) = []
 
 -- the text of number i + 1
-unfoldable pub textOf : ℕ → List ℕ
-textOf i = textIn (reasonOf (i + 1))
+unfoldable pub reasonText : ℕ → List ℕ
+reasonText i = textIn (reasonOf (i + 1))
 
 -- the texts of all numbers, one after the other
-unfoldable pub allTexts : List ℕ
-allTexts = cat textOf 17
+unfoldable pub reasonTexts : List ℕ
+reasonTexts = cat reasonText 17
 
 -- where the text of number i + 1 begins among them
-unfoldable pub startOf : ℕ → ℕ
-startOf i = length (cat textOf i)
+unfoldable pub reasonStart : ℕ → ℕ
+reasonStart i = length (cat reasonText i)

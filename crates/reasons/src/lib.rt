@@ -7,10 +7,10 @@ ghost use lib.ListN.{length};
 ghost use Rattle.ground.specs.Said.{over};
 ghost use Rattle.model.specs.Refusals.{writtenOf, FewBytes};
 ghost use Rattle.reasons.specs.Reasons.{textSaid, reasonSaid};
-ghost use Rattle.reasons.specs.Inner.{textOf, allTexts, startOf};
+ghost use Rattle.reasons.specs.Inner.{reasonText, reasonTexts, reasonStart};
 
 // The bytes fill the slice.
-fn put_all(text: &[u8], d: &mut [u8])
+fn copy(text: &[u8], d: &mut [u8])
     requires { ⌜ length (now d) ≡ length (now text) ⌝ }
     ensures { λ _. ⌜ now (d .exit) ≡ now (text .entry) ⌝ }
 {
@@ -22,7 +22,7 @@ fn put_all(text: &[u8], d: &mut [u8])
 }
 
 // The text is written at the front of `out`, or nothing is.
-fn put_text(text: &[u8], out: &mut [u8]) -> Written
+fn say_text(text: &[u8], out: &mut [u8]) -> Written
     requires { ⌜ length (now text) < 2 ^ 32 ⌝ }
     ensures { λ r. ⌜ (r ≡ writtenOf (textSaid (now (text .entry)) (length (now (out .entry))))) × (FewBytes r) ⌝ }
     ensures { λ _. ⌜ now (out .exit) ≡ over (textSaid (now (text .entry)) (length (now (out .entry)))) (now (out .entry)) ⌝ }
@@ -31,14 +31,14 @@ fn put_text(text: &[u8], out: &mut [u8]) -> Written
     if out.len() < size {
         return Written::No(model::refused(17, 0, 0));
     }
-    put_all(text, &mut out[..size]);
+    copy(text, &mut out[..size]);
     Written::Bytes(size)
 }
 
 // Where the text of number i + 1 begins in the table, and the text of number i ends.
-fn start_of(i: usize) -> usize
+fn reason_start(i: usize) -> usize
     requires { ⌜ i ≤ 17 ⌝ }
-    ensures { λ r. ⌜ r ≡ startOf i ⌝ }
+    ensures { λ r. ⌜ r ≡ reasonStart i ⌝ }
 {
     let starts = [
         0,
@@ -64,14 +64,14 @@ fn start_of(i: usize) -> usize
 }
 
 // Text i of the table, which has all texts one after the other, is written at the front of `out`, or nothing is.
-fn put_from(table: &[u8], i: usize, out: &mut [u8]) -> Written
-    requires { ⌜ (now table ≡ allTexts) × (i < 17) ⌝ }
-    ensures { λ r. ⌜ (r ≡ writtenOf (textSaid (textOf i) (length (now (out .entry))))) × (FewBytes r) ⌝ }
-    ensures { λ _. ⌜ now (out .exit) ≡ over (textSaid (textOf i) (length (now (out .entry)))) (now (out .entry)) ⌝ }
+fn say_from(table: &[u8], i: usize, out: &mut [u8]) -> Written
+    requires { ⌜ (now table ≡ reasonTexts) × (i < 17) ⌝ }
+    ensures { λ r. ⌜ (r ≡ writtenOf (textSaid (reasonText i) (length (now (out .entry))))) × (FewBytes r) ⌝ }
+    ensures { λ _. ⌜ now (out .exit) ≡ over (textSaid (reasonText i) (length (now (out .entry)))) (now (out .entry)) ⌝ }
 {
-    let from = start_of(i);
-    let to = start_of(i + 1);
-    put_text(&table[from..to], out)
+    let from = reason_start(i);
+    let to = reason_start(i + 1);
+    say_text(&table[from..to], out)
 }
 
 // The meaning of a refusal's number is written at the front of `out`, or nothing is.
@@ -80,7 +80,7 @@ pub fn put_reason(number: u32, out: &mut [u8]) -> Written
     ensures { λ _. ⌜ now (out .exit) ≡ over (reasonSaid number (length (now (out .entry)))) (now (out .entry)) ⌝ }
 {
     match number {
-        1..=17 => put_from(
+        1..=17 => say_from(
             b"the configuration has more than 65,536 bytes\
             the file ends before or inside a line\
             a byte outside 32 to 126 before the end of the line\

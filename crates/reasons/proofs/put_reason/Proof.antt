@@ -6,20 +6,20 @@ use native.Mathlib.Omega.{arith}
 use borrow.Author.Needs.{needs}
 use lib.ListN.{length}
 use Rattle.reasons.specs.Reasons.{reasonOf}
-use Rattle.reasons.specs.Inner.{textOf, allTexts}
-use Rattle.reasons.proofs.Laws.{told, untold}
+use Rattle.reasons.specs.Inner.{reasonText, reasonTexts}
+use Rattle.reasons.proofs.Laws.{reason-told, reason-untold}
 use Rattle.reasons.proofs.put_reason.Statement.{statement}
 use Rattle.reasons.proofs.put_reason.Tie as tie
 
-slice-aggregate-put-from : tie.Need-slice-aggregate-put-from
-slice-aggregate-put-from c = search needs
+slice-aggregate-say-from : tie.Need-slice-aggregate-say-from
+slice-aggregate-say-from c = search needs
 
-sub-put-from : tie.Need-sub-put-from
-sub-put-from c = search needs
+sub-say-from : tie.Need-sub-say-from
+sub-say-from c = search needs
 
-put-from-requires : tie.Need-put-from-requires
-unfolding allTexts textOf reasonOf
-put-from-requires c κs = (refl, omega arith)
+say-from-requires : tie.Need-say-from-requires
+unfolding reasonTexts reasonText reasonOf
+say-from-requires c κs = (refl, omega arith)
 
 refused-requires : tie.Need-refused-requires
 refused-requires c κs = search needs
@@ -31,22 +31,22 @@ returns : tie.Need-returns
 returns c =
     let a = c .before .before .before .before .before .before .before .before .args in
     let e : a .number - 1 + 1 ≡ a .number = omega arith in
-    let t = told (a .number - 1) (length (a .out .now)) (omega arith) in
-    rw (rw e at t) (c .before .before .put-from .ensures)
+    let t = reason-told (a .number - 1) (length (a .out .now)) (omega arith) in
+    rw (rw e at t) (c .before .before .say-from .ensures)
 
 returns-2 : tie.Need-returns-2
 returns-2 c =
     let a = c .before .before .before .args in
     let outside : (a .number < 1) ⊎ (17 < a .number) = ⊎-elim (λ h. inl (h .taken)) (λ h. inr (h .1 .left)) (c .before .if1 .came) in
-    rw (c .refused .ensures, untold (a .number) (length (a .out .now)) outside) ((refl, tt), refl)
+    rw (c .refused .ensures, reason-untold (a .number) (length (a .out .now)) outside) ((refl, tt), refl)
 
 pub put-reason-spec : {M : Type 1} → statement M
 put-reason-spec =
     tie.close
     (tie.spec
-    slice-aggregate-put-from
-    sub-put-from
-    put-from-requires
+    slice-aggregate-say-from
+    sub-say-from
+    say-from-requires
     refused-requires
     same-length
     returns

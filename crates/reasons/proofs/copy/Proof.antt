@@ -1,4 +1,4 @@
--- `put_all` meets its contract. The loop's invariant: the first i bytes of the slice are those of the text. The measure is what is left of the text.
+-- `copy` meets its contract. The loop's invariant: the first i bytes of the slice are those of the text. The measure is what is left of the text.
 use mathlib.Core.Path.{_≡_, refl, sym, _∙_}
 use Prim.Native.Nat.{_≤_, _<_, _-_}
 use native.Mathlib.Numerals.{add-one}
@@ -6,8 +6,8 @@ use native.Mathlib.Omega.{arith}
 use borrow.Author.Needs.{needs}
 use lib.ListN.{length, take, getD, length-set}
 use lib.Seq.{take-suc, take-suc-set, take-length}
-use Rattle.reasons.proofs.put_all.Statement.{statement}
-use Rattle.reasons.proofs.put_all.Tie as tie
+use Rattle.reasons.proofs.copy.Statement.{statement}
+use Rattle.reasons.proofs.copy.Tie as tie
 
 abbrev Inv-loop : tie.InvT-loop
 Inv-loop text d₀ i₀ d i = (i ≤ length text) × (length d ≡ length d₀) × (take i d ≡ take i text)
@@ -53,8 +53,8 @@ returns c =
     let j : take (length s) (p .d) ≡ p .d = rw (← k) (take-length (p .d)) in
     sym j ∙ m ∙ take-length s
 
-pub put-all-spec : {M : Type 1} → statement M
-put-all-spec =
+pub copy-spec : {M : Type 1} → statement M
+copy-spec =
     tie.close
     (tie.spec
     Inv-loop

@@ -1,10 +1,11 @@
--- Laws of the walk over the rows of a file that was accepted.
+-- Laws of the rows of a listing, and of the walk over the rows of a file that was accepted.
+--     rows-next       the line of one row more
 --     line-room       a row's line has at most 16 characters for each byte that the row takes
 --     Walked          what is known at a row of such a file
 --     walked-start, walked-row, walked-next     at the first row; that there is a row; and from one to the next
 -- Assumes nothing.
 use mathlib.Core.Path.{_≡_, sym, _∙_}
-use mathlib.Core.List.{List, [], _∷_}
+use mathlib.Core.List.{List, [], _∷_, _++_}
 use Prim.Native.Nat.{ℕ, suc, _+_, _-_, _*_, _<_, _≤_}
 use native.Mathlib.Nat.{sub-zero}
 use native.Mathlib.Omega.{arith}
@@ -26,10 +27,17 @@ use Rattle.binary_row.specs.Rows.{rowSize}
 use Rattle.ascii_file.specs.Files.{scanRow, checkRow, lineTaken}
 use Rattle.ascii_file.proofs.Laws.{row-fine}
 use Rattle.row_bytes.proofs.KindLaws.{text-kind, binary-kind, by-kind}
-use Rattle.data.specs.Files.{fileFine}
+use Rattle.data.specs.Files.{fileFine, rowAt}
 use Rattle.rows.specs.Walks.{takenHere, restOf, HasRow, fineHere, checkHere, startFine, walkFine}
 use Rattle.rows.proofs.WalkLaws.{rest-none, rest-next, fine-walk, fine-taken, taken-within, has-row}
-use Rattle.list_text.specs.Listing.{lineMost}
+use Rattle.list_lines.specs.Lines.{rowLine}
+use Rattle.list_lines.specs.Inner.{lineMost}
+use Rattle.list_lines.proofs.Laws.{cat-next}
+use Rattle.list_text.specs.Listing.{rowsText}
+
+pub rows-next : (l : Layout) (s : List ℕ) (i : ℕ) → rowsText l s i ++ rowLine l (i + 1) (rowAt l s i) ≡ rowsText l s (i + 1)
+unfolding rowsText
+rows-next l s i = cat-next (λ j. rowLine l (j + 1) (rowAt l s j)) i
 
 commas-le : (l : List ℕ) → commas l ≤ length l
 commas-le [] = omega arith

@@ -6,14 +6,14 @@ use Rattle.list_text.proofs.put_row_here.Tie as tie
 row-here-requires : tie.Need-row-here-requires
 row-here-requires c κs = search needs
 
-put-row-requires : tie.Need-put-row-requires
-put-row-requires c κs = search needs
+put-row-line-requires : tie.Need-put-row-line-requires
+put-row-line-requires c κs = search needs
 
 same-length : tie.Need-same-length
 same-length c = search needs
 
 returns : tie.Need-returns
-returns c = rw (← c .before .before .before .before .row-here .ensures) (c .before .before .put-row .ensures)
+returns c = rw (← c .before .before .before .before .row-here .ensures) (c .before .before .put-row-line .ensures)
 
 pub put-row-here-spec : {M : Type 1} → statement M
-put-row-here-spec = tie.close (tie.spec row-here-requires put-row-requires same-length returns)
+put-row-here-spec = tie.close (tie.spec row-here-requires put-row-line-requires same-length returns)

@@ -7,7 +7,7 @@ ghost use lib.ListN.{length};
 ghost use Rattle.list.specs.Reads.{Within};
 
 // Room for one byte more than a file may have.
-const ROOM: usize = 65537;
+const FILE_ROOM: usize = 65537;
 
 // So many bytes were read, or none for a reason that was told.
 enum Got {
@@ -16,10 +16,10 @@ enum Got {
 }
 
 // Room for a file.
-fn empty_room() -> [u8; ROOM]
+fn empty_room() -> [u8; FILE_ROOM]
     ensures { λ r. ⌜ 65537 ≡ length r ⌝ }
 {
-    [0; ROOM]
+    [0; FILE_ROOM]
 }
 
 // Reads on until the room is full or the input ends.

@@ -64,11 +64,18 @@ returns-3 : tie.Need-returns-3
 returns-3 c = search needs
 
 -- the bytes that were read lie within their rooms
-first : (c : tie.After-known-told2) → c .before .before .before .before .before .before .before .before .before .first .given .0 .0 ≤ length (c .before .before .before .before .before .before .before .before .before .before .before .before .read-argument .last .1 .1 .0)
-first c = omega (arith, bytes-within _ (c .before .before .before .before .before .before .before .before .before .first .given .0 .0) (c .before .before .before .before .before .before .before .before .before .before .before .before .read-argument .result) (c .before .before .before .before .before .before .before .before .before .before .before .before .read-argument .ensures) (c .before .before .before .before .before .before .before .before .before .first .given .1), c .before .before .before .before .before .before .before .before .before .before .before .before .read-argument .kept .1 .1 .0)
+first : (c : tie.After-known-told2) → let b = c .before .before .before .before .before .before .before .before .before in b .first .given .0 .0 ≤ length (b .before .before .before .read-argument .last .1 .1 .0)
+first c =
+    let b = c .before .before .before .before .before .before .before .before .before in
+    let g = b .first .given in
+    let r = b .before .before .before .read-argument in
+    omega (arith, bytes-within _ (g .0 .0) (r .result) (r .ensures) (g .1), r .kept .1 .1 .0)
 
 second : (c : tie.After-known-told2) → c .before .second .given .0 .0 ≤ length (c .before .before .before .before .read-argument2 .last .1 .1 .0)
-second c = omega (arith, bytes-within _ (c .before .second .given .0 .0) (c .before .before .before .before .read-argument2 .result) (c .before .before .before .before .read-argument2 .ensures) (c .before .second .given .1), c .before .before .before .before .read-argument2 .kept .1 .1 .0)
+second c =
+    let g = c .before .second .given in
+    let r = c .before .before .before .before .read-argument2 in
+    omega (arith, bytes-within _ (g .0 .0) (r .result) (r .ensures) (g .1), r .kept .1 .1 .0)
 
 array-share-prefix-cfg : tie.Need-array-share-prefix-cfg
 array-share-prefix-cfg c = first c

@@ -2,7 +2,7 @@
 
 use crate::programs::Program;
 use crate::recording::{time, Recording};
-use bench::tuned::Answer;
+use bench::Answer;
 
 const KINDS: [&str; 3] = ["ASCII", "binary", "binary32"];
 

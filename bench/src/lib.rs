@@ -2,3 +2,10 @@
 
 pub mod library;
 pub mod tuned;
+
+pub use zagalume_raw::Answer;
+
+/// An answer of the second program, in the form that the library gives it.
+pub fn of_second(answer: second::Answer) -> Answer {
+    Answer { number: answer.number, at: answer.at, field: answer.field, length: answer.length }
+}

@@ -50,6 +50,6 @@ pub fn describe() -> String {
         said("uname", &["-srm"]),
         processor(),
         load(),
-        env!("BENCH_RUSTC"),
+        option_env!("BENCH_RUSTC").unwrap_or("rustc"),
     )
 }

@@ -1,8 +1,7 @@
 //! The three programs behind one set of calls, each reached through pointers, so that none is built into the loop
 //! around it.
 
-use bench::library;
-use bench::tuned::{self, Answer};
+use bench::{library, of_second, tuned, Answer};
 
 /// The calls that are measured.
 pub struct Program {
@@ -33,11 +32,11 @@ pub const PROGRAMS: [Program; COUNT] = [
     },
     Program {
         name: "second",
-        config: |cfg, shown| plain(second::config(cfg, shown)),
-        check: |a, d, rows, kind, data| plain(second::check(a, d, rows, kind, data)),
-        row: |a, d, rows, kind, data, n, shown| plain(second::row(a, d, rows, kind, data, n, shown)),
-        write_row: |a, d, rows, kind, n, row, out| plain(second::write_row(a, d, rows, kind, n, row, out)),
-        change: |a, d, rows, kind, data, new, out| plain(second::change(a, d, rows, kind, data, new, out)),
+        config: |cfg, shown| of_second(second::config(cfg, shown)),
+        check: |a, d, rows, kind, data| of_second(second::check(a, d, rows, kind, data)),
+        row: |a, d, rows, kind, data, n, shown| of_second(second::row(a, d, rows, kind, data, n, shown)),
+        write_row: |a, d, rows, kind, n, row, out| of_second(second::write_row(a, d, rows, kind, n, row, out)),
+        change: |a, d, rows, kind, data, new, out| of_second(second::change(a, d, rows, kind, data, new, out)),
     },
     Program {
         name: "tuned",
@@ -48,8 +47,3 @@ pub const PROGRAMS: [Program; COUNT] = [
         change: tuned::change,
     },
 ];
-
-/// The second program's answer in the library's form.
-fn plain(answer: second::Answer) -> Answer {
-    Answer { number: answer.number, at: answer.at, field: answer.field, length: answer.length }
-}

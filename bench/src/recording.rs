@@ -1,6 +1,7 @@
 //! The recordings that are measured: the same ones in every run.
 
-use bench::tuned;
+use bench::{tuned, Answer};
+use dice::Dice;
 
 /// Rows kept in memory as a source for writing.
 const KEPT_ROWS: u32 = 1_000;
@@ -18,18 +19,6 @@ pub struct Recording {
     pub kept: Vec<Vec<i64>>,
     /// The rows that are shown.
     pub shown: Vec<u32>,
-}
-
-/// A generator of numbers (xorshift64*).
-struct Chance(u64);
-
-impl Chance {
-    fn next(&mut self) -> u64 {
-        self.0 ^= self.0 >> 12;
-        self.0 ^= self.0 << 25;
-        self.0 ^= self.0 >> 27;
-        self.0.wrapping_mul(0x2545_F491_4F6C_DD1D) >> 16
-    }
 }
 
 /// The time of row n, rising.
@@ -70,10 +59,10 @@ impl Recording {
         let mut files = most_bytes(a, d, rows).map(|bytes| vec![0xEE; bytes as usize]);
         let mut ends = [0; 3];
         let mut kept = Vec::new();
-        let mut chance = Chance(0x5EED_0000 + u64::from(a) * 1_000 + u64::from(d));
+        let mut dice = Dice::of(u64::from(a), u64::from(d));
         let mut row = vec![0; (1 + a + d) as usize];
         for n in 1..=rows {
-            fill_row(&mut chance, n, a as usize, &mut row);
+            fill_row(&mut dice, n, a as usize, &mut row);
             for (kind, (file, end)) in (0..).zip(files.iter_mut().zip(&mut ends)) {
                 *end += written(tuned::write_row(a, d, rows, kind, n, &row, &mut file[*end..]));
             }
@@ -91,18 +80,18 @@ impl Recording {
 }
 
 /// Samples of 16 bits in sizes that vary, statuses of any bit.
-fn fill_row(chance: &mut Chance, n: u32, a: usize, row: &mut [i64]) {
+fn fill_row(dice: &mut Dice, n: u32, a: usize, row: &mut [i64]) {
     row[0] = time(n);
     for place in &mut row[1..1 + a] {
-        let word = chance.next();
+        let word = dice.word();
         *place = i64::from((word as i16) >> (word >> 16 & 7));
     }
     for place in &mut row[1 + a..] {
-        *place = (chance.next() >> 7 & 1) as i64;
+        *place = dice.below(2) as i64;
     }
 }
 
-fn written(answer: tuned::Answer) -> usize {
+fn written(answer: Answer) -> usize {
     assert_eq!(answer.number, 0, "a row made to fit was refused");
     answer.length as usize
 }

@@ -12,15 +12,7 @@ mod text;
 pub use change::{change, length};
 pub use config::config;
 
-/// An answer: number 0 is "yes"; a "no" has its number and place, and length zero.
-#[repr(C)]
-#[derive(Debug, Clone, Copy, PartialEq, Eq)]
-pub struct Answer {
-    pub number: u32,
-    pub at: u32,
-    pub field: u32,
-    pub length: u32,
-}
+use crate::Answer;
 
 /// A "no" with its place. A refusal ends the job, so the compiler may keep it out of the way.
 #[cold]

@@ -2,13 +2,9 @@
 
 mod made;
 
-use bench::tuned::{self, Answer};
-use made::{Chance, Recording};
-
-/// An answer of the second program.
-fn of_second(answer: second::Answer) -> Answer {
-    Answer { number: answer.number, at: answer.at, field: answer.field, length: answer.length }
-}
+use bench::{of_second, tuned, Answer};
+use dice::Dice;
+use made::Recording;
 
 /// How often each number was answered: a test that never meets a refusal says little about it.
 struct Met([u32; 18]);
@@ -43,9 +39,9 @@ fn compare<T: Copy + PartialEq + std::fmt::Debug>(
 
 #[test]
 fn files_are_checked_alike() {
-    let (mut chance, mut met) = (Chance(1), Met([0; 18]));
+    let (mut dice, mut met) = (Dice::new(1), Met([0; 18]));
     for _ in 0..60_000 {
-        let Recording { a, d, rows, kind, data, .. } = Recording::made(&mut chance);
+        let Recording { a, d, rows, kind, data, .. } = Recording::made(&mut dice);
         let answer = tuned::check(a, d, rows, kind, &data);
         assert_eq!(answer, of_second(second::check(a, d, rows, kind, &data)), "{a} {d} {rows} {kind} {data:?}");
         met.note(answer);
@@ -55,11 +51,11 @@ fn files_are_checked_alike() {
 
 #[test]
 fn rows_are_shown_alike() {
-    let (mut chance, mut met) = (Chance(2), Met([0; 18]));
+    let (mut dice, mut met) = (Dice::new(2), Met([0; 18]));
     for _ in 0..30_000 {
-        let Recording { a, d, rows, kind, data, .. } = Recording::made(&mut chance);
-        let n = chance.below(u64::from(rows.min(10)) + 2) as u32;
-        let room = (a.min(96) + d.min(256)) as usize + chance.below(3) as usize;
+        let Recording { a, d, rows, kind, data, .. } = Recording::made(&mut dice);
+        let n = dice.below(u64::from(rows.min(10)) + 2) as u32;
+        let room = (a.min(96) + d.min(256)) as usize + dice.below(3) as usize;
         let tuned = |shown: &mut [i64]| tuned::row(a, d, rows, kind, &data, n, shown);
         compare(room, -9, &mut met, tuned, |shown| second::row(a, d, rows, kind, &data, n, shown));
     }
@@ -68,18 +64,18 @@ fn rows_are_shown_alike() {
 
 #[test]
 fn rows_are_written_alike() {
-    let (mut chance, mut met) = (Chance(3), Met([0; 18]));
+    let (mut dice, mut met) = (Dice::new(3), Met([0; 18]));
     for _ in 0..60_000 {
-        let Recording { a, d, rows, kind, values, .. } = Recording::made(&mut chance);
+        let Recording { a, d, rows, kind, values, .. } = Recording::made(&mut dice);
         let mut row = values[0].clone();
-        if chance.one_in(4) {
-            let place = chance.below(row.len() as u64) as usize;
-            row[place] = chance.odd_number();
+        if dice.once_in(4) {
+            let place = dice.below(row.len() as u64) as usize;
+            row[place] = made::odd_number(&mut dice);
         }
-        if chance.one_in(20) {
+        if dice.once_in(20) {
             row.pop();
         }
-        let n = chance.below(u64::from(rows.min(1_000_000)) + 2) as u32;
+        let n = dice.below(u64::from(rows.min(1_000_000)) + 2) as u32;
         let tuned = |out: &mut [u8]| tuned::write_row(a, d, rows, kind, n, &row, out);
         let second = |out: &mut [u8]| second::write_row(a, d, rows, kind, n, &row, out);
         let length = compare(2_000, 0xEE, &mut met, tuned, second).length as usize;
@@ -91,10 +87,10 @@ fn rows_are_written_alike() {
 
 #[test]
 fn kinds_are_changed_alike() {
-    let (mut chance, mut met) = (Chance(4), Met([0; 18]));
+    let (mut dice, mut met) = (Dice::new(4), Met([0; 18]));
     for _ in 0..40_000 {
-        let Recording { a, d, rows, kind, data, .. } = Recording::made(&mut chance);
-        let new_kind = if chance.one_in(40) { 3 } else { chance.below(3) as u32 };
+        let Recording { a, d, rows, kind, data, .. } = Recording::made(&mut dice);
+        let new_kind = if dice.once_in(40) { 3 } else { dice.below(3) as u32 };
         let needed = tuned::length(a, d, rows, kind, &data, new_kind);
         assert_eq!(needed, of_second(second::length(a, d, rows, kind, &data, new_kind)));
         let tuned = |out: &mut [u8]| tuned::change(a, d, rows, kind, &data, new_kind, out);
@@ -109,10 +105,10 @@ fn kinds_are_changed_alike() {
 
 #[test]
 fn configurations_are_read_alike() {
-    let (mut chance, mut met) = (Chance(5), Met([0; 18]));
+    let (mut dice, mut met) = (Dice::new(5), Met([0; 18]));
     for _ in 0..200_000 {
-        let cfg = made::configuration(&mut chance);
-        let room = if chance.one_in(50) { 33 } else { 36 };
+        let cfg = made::configuration(&mut dice);
+        let room = if dice.once_in(50) { 33 } else { 36 };
         let tuned = |shown: &mut [i64]| tuned::config(&cfg, shown);
         compare(room, -9, &mut met, tuned, |shown| second::config(&cfg, shown));
     }

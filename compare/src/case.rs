@@ -1,5 +1,6 @@
 //! A case: one call with its arguments, and how it is spelled on a line.
 
+use crate::words::{listed, spelled, Words};
 use std::fmt::{self, Display, Formatter};
 
 /// A layout as it is given to a call, out of the sizes too.
@@ -85,54 +86,6 @@ impl Case {
             Case::WriteRow { .. } | Case::Change { .. } | Case::Reason { .. } => length as usize,
         }
     }
-
-    /// Whether the buffer lent for the answer is of 64-bit places, not of bytes.
-    pub fn shows_places(&self) -> bool {
-        matches!(self, Case::Config { .. } | Case::Row { .. })
-    }
-}
-
-/// Bytes on a line: 33 to 126 as they stand, but the backslash; all others as \xHH.
-pub fn escaped(bytes: &[u8]) -> String {
-    let mut text = String::new();
-    for &byte in bytes {
-        match byte {
-            b'\\' | 0..=32 | 127..=255 => text.push_str(&format!("\\x{byte:02x}")),
-            _ => text.push(byte as char),
-        }
-    }
-    text
-}
-
-/// The bytes that a line spells; nothing if it is misspelled.
-pub fn unescaped(text: &str) -> Option<Vec<u8>> {
-    let mut bytes = Vec::new();
-    let mut rest = text.as_bytes();
-    while let Some((&byte, tail)) = rest.split_first() {
-        rest = tail;
-        if byte != b'\\' {
-            bytes.push(byte);
-            continue;
-        }
-        let digits = std::str::from_utf8(tail.get(1..3)?).ok()?;
-        bytes.push(u8::from_str_radix(digits, 16).ok()?);
-        rest = &tail[3..];
-    }
-    Some(bytes)
-}
-
-/// Numbers on a line, with commas between.
-pub fn listed(places: &[i64]) -> String {
-    let words: Vec<String> = places.iter().map(i64::to_string).collect();
-    words.join(",")
-}
-
-/// The numbers that a line lists.
-pub fn unlisted(text: &str) -> Option<Vec<i64>> {
-    if text.is_empty() {
-        return Some(Vec::new());
-    }
-    text.split(',').map(|word| word.parse().ok()).collect()
 }
 
 impl Display for Layout {
@@ -141,56 +94,41 @@ impl Display for Layout {
     }
 }
 
-/// A case as a line of kept/cases has it: its numbers stand before its bytes, a layout as A, D, rows and kind.
+/// A case as a line of kept/ has it: its numbers stand before its bytes, a layout as A, D, rows and kind.
 impl Display for Case {
     fn fmt(&self, f: &mut Formatter) -> fmt::Result {
         write!(f, "{} ", CALLS[self.call()])?;
         match self {
-            Case::Config { cfg, places } => write!(f, "{places} {}", escaped(cfg)),
-            Case::Check { layout, file } => write!(f, "{layout} {}", escaped(file)),
-            Case::Row { layout, file, n, places } => write!(f, "{layout} {n} {places} {}", escaped(file)),
+            Case::Config { cfg, places } => write!(f, "{places} {}", spelled(cfg)),
+            Case::Check { layout, file } => write!(f, "{layout} {}", spelled(file)),
+            Case::Row { layout, file, n, places } => write!(f, "{layout} {n} {places} {}", spelled(file)),
             Case::WriteRow { layout, n, row, room } => write!(f, "{layout} {n} {room} {}", listed(row)),
-            Case::Length { layout, file, new_kind } => write!(f, "{layout} {new_kind} {}", escaped(file)),
-            Case::Change { layout, file, new_kind, room } => write!(f, "{layout} {new_kind} {room} {}", escaped(file)),
+            Case::Length { layout, file, new_kind } => write!(f, "{layout} {new_kind} {}", spelled(file)),
+            Case::Change { layout, file, new_kind, room } => write!(f, "{layout} {new_kind} {room} {}", spelled(file)),
             Case::Reason { number, room } => write!(f, "{number} {room}"),
         }
     }
 }
 
-/// The words of a line, read one after the other.
-struct Words<'a>(std::str::Split<'a, char>);
-
-impl Words<'_> {
-    fn number<T: std::str::FromStr>(&mut self) -> Option<T> {
-        self.0.next()?.parse().ok()
-    }
-
-    fn layout(&mut self) -> Option<Layout> {
-        Some(Layout { a: self.number()?, d: self.number()?, rows: self.number()?, kind: self.number()? })
-    }
-
-    fn bytes(&mut self) -> Option<Vec<u8>> {
-        unescaped(self.0.next()?)
-    }
-
-    fn list(&mut self) -> Option<Vec<i64>> {
-        unlisted(self.0.next()?)
-    }
+/// The layout that a line gives.
+pub fn parse_layout(w: &mut Words) -> Option<Layout> {
+    Some(Layout { a: w.number()?, d: w.number()?, rows: w.number()?, kind: w.number()? })
 }
 
-/// The case that a line spells; nothing if it is misspelled.
-pub fn parse(line: &str) -> Option<Case> {
-    let mut words = Words(line.split(' '));
-    let w = &mut words;
-    let case = match w.0.next()? {
+/// The case that a line spells, up to what follows its bytes or its row; nothing if it is misspelled.
+pub fn parse(w: &mut Words) -> Option<Case> {
+    Some(match w.word()? {
         "config" => Case::Config { places: w.number()?, cfg: w.bytes()? },
-        "check" => Case::Check { layout: w.layout()?, file: w.bytes()? },
-        "row" => Case::Row { layout: w.layout()?, n: w.number()?, places: w.number()?, file: w.bytes()? },
-        "write_row" => Case::WriteRow { layout: w.layout()?, n: w.number()?, room: w.number()?, row: w.list()? },
-        "length" => Case::Length { layout: w.layout()?, new_kind: w.number()?, file: w.bytes()? },
-        "change" => Case::Change { layout: w.layout()?, new_kind: w.number()?, room: w.number()?, file: w.bytes()? },
+        "check" => Case::Check { layout: parse_layout(w)?, file: w.bytes()? },
+        "row" => Case::Row { layout: parse_layout(w)?, n: w.number()?, places: w.number()?, file: w.bytes()? },
+        "write_row" => {
+            Case::WriteRow { layout: parse_layout(w)?, n: w.number()?, room: w.number()?, row: w.numbers()? }
+        }
+        "length" => Case::Length { layout: parse_layout(w)?, new_kind: w.number()?, file: w.bytes()? },
+        "change" => {
+            Case::Change { layout: parse_layout(w)?, new_kind: w.number()?, room: w.number()?, file: w.bytes()? }
+        }
         "reason" => Case::Reason { number: w.number()?, room: w.number()? },
         _ => return None,
-    };
-    words.0.next().is_none().then_some(case)
+    })
 }

@@ -1,8 +1,8 @@
 //! Damage to bytes, whatever they are.
 
 use crate::case::Case;
-use crate::dice::Dice;
 use crate::walk::Walk;
+use dice::Dice;
 use std::ops::RangeInclusive;
 
 /// Bytes that mean something to some rule, or lie beside one that does.

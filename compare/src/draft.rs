@@ -1,7 +1,7 @@
 //! Configurations as lines of fields, each field with its rule, so that one can be changed by itself.
 
-use crate::dice::Dice;
 use crate::rules::{all_lines, Rule, LIMITS};
+use dice::Dice;
 
 /// One recording, whole: the one that the rules give.
 pub const RECORDING: &str = "Bench 2,R7,2013

@@ -1,8 +1,8 @@
 //! Data files made from rows.
 
 use crate::case::Layout;
-use crate::dice::Dice;
 use crate::draft::count;
+use dice::Dice;
 
 /// The mark that ends a plain text file.
 pub const MARK: &[u8] = b"\x1a\r\n";
@@ -127,7 +127,7 @@ impl Recording {
             let sample = match dice.below(3) {
                 0 => dice.pick(&SAMPLES),
                 1 => dice.within(-40, 40),
-                _ => dice.next() as i64 >> if dice.once_in(2) { 32 } else { 48 },
+                _ => dice.word() as i64 >> if dice.once_in(2) { 32 } else { 48 },
             };
             if !narrow || i16::try_from(sample).is_ok() {
                 return sample;
@@ -135,7 +135,7 @@ impl Recording {
         };
         let mut rows = Vec::new();
         for _ in 0..layout.rows {
-            let mut row = vec![if dice.once_in(3) { dice.next() >> 32 } else { dice.below(2000) } as i64];
+            let mut row = vec![if dice.once_in(3) { dice.word() >> 32 } else { dice.below(2000) } as i64];
             row.extend((0..layout.a).map(|_| sample(dice)));
             row.extend((0..layout.d).map(|_| dice.below(2) as i64));
             rows.push(row);

@@ -1,24 +1,26 @@
 //! Runs a case on the library and on the second program, and compares the answers and every byte lent.
 
 use crate::buffer::{bytes_of, Buffer};
-use crate::case::{escaped, Case, Layout, POSSIBLE};
+use crate::case::{Case, Layout, POSSIBLE};
 use crate::lent::{Flush, Lent};
 use crate::library;
 use crate::watch;
+use crate::words;
 use second::Answer;
 
 /// Bytes of a file above which a change is followed by no more than a length and a check, so that it does not take seconds.
 const LARGE: usize = 1 << 20;
 
 /// What a case must answer, where that is known by itself.
-#[derive(Debug, Clone, Default)]
+#[derive(Debug, Clone)]
 pub struct Expected {
-    /// Number, line or row, field, length.
-    pub answer: [u32; 4],
-    /// Places shown: which, counted from 0, and what.
-    pub places: Vec<(usize, i64)>,
-    /// The bytes written.
-    pub bytes: Option<Vec<u8>>,
+    pub answer: Answer,
+    /// The places shown, or none.
+    pub places: Vec<i64>,
+    /// The bytes written, or none.
+    pub bytes: Vec<u8>,
+    /// The line that says so.
+    pub line: String,
 }
 
 /// The lent buffers and what stands in them.
@@ -50,7 +52,7 @@ fn spelled(answer: Answer) -> String {
 /// Where two buffers first differ, with the bytes of both from there on.
 fn first_difference(found: &[u8], wanted: &[u8]) -> String {
     let at = found.iter().zip(wanted).position(|(f, w)| f != w).unwrap_or(0);
-    let part = |bytes: &[u8]| escaped(&bytes[at..bytes.len().min(at + 16)]);
+    let part = |bytes: &[u8]| words::spelled(&bytes[at..bytes.len().min(at + 16)]);
     format!("from byte {at} on: {} instead of {}", part(found), part(wanted))
 }
 
@@ -160,7 +162,7 @@ impl Judge {
         self.word = word;
         let answer = self.compare(case)?;
         if let Some(expected) = expected {
-            self.hold(case, answer, expected)?;
+            self.hold(answer, expected)?;
         }
         match case {
             Case::Change { layout, file, new_kind, room } => {
@@ -172,23 +174,23 @@ impl Judge {
         Ok(answer)
     }
 
-    /// Holds the answer to what it must be.
-    fn hold(&mut self, case: &Case, answer: Answer, expected: &Expected) -> Result<(), String> {
-        let [number, at, field, length] = expected.answer;
-        let wanted = Answer { number, at, field, length };
-        if answer != wanted {
-            return Err(format!("both {}, expected {}", spelled(answer), spelled(wanted)));
+    /// Holds the answer, what is shown and what is written to what they must be.
+    fn hold(&mut self, answer: Answer, expected: &Expected) -> Result<(), String> {
+        let line = &expected.line;
+        if answer != expected.answer {
+            return Err(format!("both {}, {line} has {}", spelled(answer), spelled(expected.answer)));
         }
-        if let Some(bytes) = &expected.bytes {
-            if self.written(answer.length as usize) != *bytes {
-                return Err(format!("both wrote {}, expected {}", escaped(self.after.bytes()), escaped(bytes)));
-            }
+        let shown = &self.after.places_mut()[..expected.places.len()];
+        if shown != expected.places {
+            return Err(format!("both show {}, {line} has {}", words::listed(shown), words::listed(&expected.places)));
         }
-        let shown = if case.shows_places() { self.after.places_mut() } else { &mut [] };
-        for &(place, wanted) in &expected.places {
-            if shown.get(place) != Some(&wanted) {
-                return Err(format!("place {place} is {:?}, expected {wanted}", shown.get(place)));
-            }
+        let written = &self.after.bytes()[..expected.bytes.len()];
+        if written != expected.bytes {
+            return Err(format!(
+                "both write {}, {line} has {}",
+                words::spelled(written),
+                words::spelled(&expected.bytes)
+            ));
         }
         Ok(())
     }
@@ -276,7 +278,7 @@ pub fn reasons() -> Result<Vec<Vec<u8>>, String> {
         }
         let text = judge.output.bytes().get(..answer.length as usize).unwrap_or(&[]).to_vec();
         if text.is_empty() || !text.iter().all(|byte| (32..=126).contains(byte)) || texts.contains(&text) {
-            return Err(format!("{case}: the text is {}", escaped(&text)));
+            return Err(format!("{case}: the text is {}", words::spelled(&text)));
         }
         texts.push(text);
     }

@@ -1,28 +1,8 @@
-//! The proved library's calls, as include/zagalume.h gives them.
+//! The proved library's calls, each for a case.
 
 use crate::case::Case;
 use second::Answer;
-
-/// The answer as the library returns it.
-#[repr(C)]
-#[derive(Clone, Copy)]
-struct ZlAnswer {
-    number: u32,
-    at: u32,
-    field: u32,
-    length: u32,
-}
-
-#[rustfmt::skip]
-extern "C" {
-    fn zl_config(cfg: *const u8, cfg_length: usize, shown: *mut i64, places: usize) -> ZlAnswer;
-    fn zl_check(a: u32, d: u32, rows: u32, kind: u32, data: *const u8, data_length: usize) -> ZlAnswer;
-    fn zl_row(a: u32, d: u32, rows: u32, kind: u32, data: *const u8, data_length: usize, n: u32, shown: *mut i64, places: usize) -> ZlAnswer;
-    fn zl_write_row(a: u32, d: u32, rows: u32, kind: u32, n: u32, row: *const i64, places: usize, out: *mut u8, room: usize) -> ZlAnswer;
-    fn zl_length(a: u32, d: u32, rows: u32, kind: u32, data: *const u8, data_length: usize, new_kind: u32) -> ZlAnswer;
-    fn zl_change(a: u32, d: u32, rows: u32, kind: u32, data: *const u8, data_length: usize, new_kind: u32, out: *mut u8, room: usize) -> ZlAnswer;
-    fn zl_reason(number: u32, out: *mut u8, room: usize) -> ZlAnswer;
-}
+use zagalume_raw::{zl_change, zl_check, zl_config, zl_length, zl_reason, zl_row, zl_write_row};
 
 /// Asks the library.
 ///

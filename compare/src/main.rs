@@ -6,11 +6,10 @@ mod case;
 mod configs;
 mod damage;
 mod data;
-mod dice;
 mod draft;
 mod files;
 mod judge;
-mod known;
+mod kept;
 mod lent;
 mod library;
 mod misfits;
@@ -21,6 +20,7 @@ mod spellings;
 mod tally;
 mod walk;
 mod watch;
+mod words;
 
 use case::Case;
 use judge::{Expected, Judge};
@@ -80,7 +80,7 @@ fn settings(mut words: impl Iterator<Item = String>) -> Option<Settings> {
 /// Walks over a family's cases; the random ones are as many as are left to fill up the number asked for.
 fn walk_family(walk: &mut Walk, family: Family, settings: &Settings, random: u64) {
     match family {
-        Family::Kept => known::walk(walk),
+        Family::Kept => kept::walk(walk),
         Family::Systematic => {
             configs::walk(walk);
             data::walk(walk);
@@ -92,16 +92,12 @@ fn walk_family(walk: &mut Walk, family: Family, settings: &Settings, random: u64
     }
 }
 
-/// How many cases are not random.
-fn count_fixed(settings: &Settings) -> u64 {
-    let mut count = 0;
-    for family in [Family::Kept, Family::Systematic] {
-        let mut visit = |_, _, _| ();
-        let mut walk = Walk::new(Wanted::Nothing, &mut visit);
-        walk_family(&mut walk, family, settings, 0);
-        count += walk.passed();
-    }
-    count
+/// How many cases a family has that is not random.
+fn count(family: Family, settings: &Settings) -> u64 {
+    let mut visit = |_, _, _| ();
+    let mut walk = Walk::new(Wanted::Nothing, &mut visit);
+    walk_family(&mut walk, family, settings, 0);
+    walk.passed()
 }
 
 /// The line of a case that differs, kept short.
@@ -170,15 +166,16 @@ fn tell_progress(shared: &Shared, all: u64) {
 
 /// Runs all cases in threads and puts together what they found.
 fn run(settings: &Settings, reasons: &[Vec<u8>]) -> Found {
-    let fixed = count_fixed(settings);
-    let random = settings.cases.saturating_sub(fixed);
+    let (kept, systematic) = (count(Family::Kept, settings), count(Family::Systematic, settings));
+    let random = settings.cases.saturating_sub(kept + systematic);
     let shared = Shared::default();
     let mut all = Found::default();
-    eprintln!("compare: {fixed} systematic cases and {random} random ones, seed {}", settings.seed);
+    let seed = settings.seed;
+    eprintln!("compare: {kept} kept cases, {systematic} systematic and {random} random ones, seed {seed}");
     std::thread::scope(|scope| {
         let workers: Vec<_> =
             (0..settings.threads).map(|_| scope.spawn(|| work(settings, &shared, random, reasons))).collect();
-        scope.spawn(|| tell_progress(&shared, fixed + random));
+        scope.spawn(|| tell_progress(&shared, kept + systematic + random));
         for worker in workers {
             let Ok(found) = worker.join() else { std::process::exit(1) };
             all.tally.add(&found.tally);

@@ -4,9 +4,9 @@ use crate::calls::needed;
 use crate::case::{Case, Layout};
 use crate::damage;
 use crate::data::{ENDINGS, FIELDS};
-use crate::dice::Dice;
 use crate::draft::Draft;
 use crate::files::{row_bytes, text, Recording, BEYOND, SAMPLES};
+use dice::Dice;
 
 /// The case of a seed and a number.
 pub fn case(seed: u64, index: u64) -> Case {
@@ -132,7 +132,7 @@ fn asked(dice: &mut Dice, layout: Layout) -> Layout {
         2 => 0,
         3 => number + 1,
         4 => number.wrapping_sub(1),
-        _ => dice.next() as u32,
+        _ => dice.word() as u32,
     };
     match dice.below(64) {
         0 => Layout { a: near(dice, a, 96), ..layout },
@@ -215,7 +215,7 @@ fn row_asked(dice: &mut Dice, layout: Layout) -> u32 {
     match dice.below(16) {
         0 => 0,
         1 => layout.rows.wrapping_add(1),
-        2 => dice.next() as u32,
+        2 => dice.word() as u32,
         _ => 1 + dice.below(u64::from(layout.rows.clamp(1, 1_000_000))) as u32,
     }
 }
@@ -263,7 +263,7 @@ fn write_row(dice: &mut Dice) -> Case {
     }
     match dice.below(24) {
         0 => drop(row.pop()),
-        1..=3 => row.push(dice.next() as i64),
+        1..=3 => row.push(dice.word() as i64),
         4 => row.resize(row.len() + dice.index(400), -1),
         _ => (),
     }

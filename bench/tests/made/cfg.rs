@@ -1,6 +1,7 @@
 //! Configurations made by chance.
 
-use super::{damage, Chance};
+use super::damage;
+use dice::Dice;
 
 /// What a field is replaced by: for each rule some forms that pass and some that do not.
 const FIELDS: &[&str] = &[
@@ -131,8 +132,8 @@ const FIELDS: &[&str] = &[
 ];
 
 /// The lines of a configuration that passes, with some last rows.
-fn lines(chance: &mut Chance) -> Vec<String> {
-    let (a, d) = (chance.below(3), chance.below(3));
+fn lines(dice: &mut Dice) -> Vec<String> {
+    let (a, d) = (dice.below(3), dice.below(3));
     let (a, d) = if a + d == 0 { (1, 1) } else { (a, d) };
     let mut lines = vec!["Bench 2,R7,2013".to_string(), format!("{},{a}A,{d}D", a + d)];
     for index in 1..=a {
@@ -142,15 +143,15 @@ fn lines(chance: &mut Chance) -> Vec<String> {
         lines.push(format!("{index},Trip,,,0"));
     }
     lines.push("50".to_string());
-    let rates = chance.below(4);
+    let rates = dice.below(4);
     lines.push(rates.to_string());
     for rate in 0..rates.max(1) {
         lines.push(format!("{},{}", if rates == 0 { 0 } else { 1000 }, 2 + 3 * rate));
     }
     for _ in 0..2 {
-        let (day, month, hour) = (1 + chance.below(28), 1 + chance.below(12), chance.below(24));
-        let year = chance.pick(&[1900, 1999, 2000, 2023, 2024, 9999]);
-        let fraction = chance.pick(&["000000", "663700", "6875001", "99999999", "976200000"]);
+        let (day, month, hour) = (1 + dice.below(28), 1 + dice.below(12), dice.below(24));
+        let year = dice.pick(&[1900, 1999, 2000, 2023, 2024, 9999]);
+        let fraction = dice.pick(&["000000", "663700", "6875001", "99999999", "976200000"]);
         lines.push(format!("{day:02}/{month:02}/{year},{hour:02}:38:26.{fraction}"));
     }
     for line in ["ASCII", "1", "0,0", "0,3"] {
@@ -160,31 +161,31 @@ fn lines(chance: &mut Chance) -> Vec<String> {
 }
 
 /// Another field, or another length of one, or a field more or less.
-fn change_field(chance: &mut Chance, lines: &mut [String]) {
-    let line = chance.below(lines.len() as u64) as usize;
+fn change_field(dice: &mut Dice, lines: &mut [String]) {
+    let line = dice.below(lines.len() as u64) as usize;
     let mut fields: Vec<String> = lines[line].split(',').map(str::to_string).collect();
-    let at = chance.below(fields.len() as u64) as usize;
-    match chance.below(10) {
-        0 => fields[at] = "n".repeat(chance.pick(&[2, 3, 32, 33, 64, 65, 128, 129])),
-        1 => fields.push("1".repeat(chance.below(20) as usize)),
+    let at = dice.below(fields.len() as u64) as usize;
+    match dice.below(10) {
+        0 => fields[at] = "n".repeat(dice.pick(&[2, 3, 32, 33, 64, 65, 128, 129])),
+        1 => fields.push("1".repeat(dice.below(20) as usize)),
         2 => drop(fields.remove(at)),
-        _ => fields[at] = chance.pick(FIELDS).to_string(),
+        _ => fields[at] = dice.pick(FIELDS).to_string(),
     }
     lines[line] = fields.join(",");
 }
 
 /// A configuration: some fields changed in most of them, some bytes in a part.
-pub fn configuration(chance: &mut Chance) -> Vec<u8> {
-    let mut lines = lines(chance);
-    for _ in 0..chance.below(4) {
-        change_field(chance, &mut lines);
+pub fn configuration(dice: &mut Dice) -> Vec<u8> {
+    let mut lines = lines(dice);
+    for _ in 0..dice.below(4) {
+        change_field(dice, &mut lines);
     }
     let mut cfg = lines.join("\r\n").into_bytes();
-    if !chance.one_in(3) {
+    if !dice.once_in(3) {
         cfg.extend(b"\r\n");
     }
-    if chance.one_in(4) {
-        damage(chance, &mut cfg);
+    if dice.once_in(4) {
+        damage(dice, &mut cfg);
     }
     cfg
 }

@@ -4,39 +4,16 @@ mod cfg;
 
 pub use cfg::configuration;
 
-/// A generator of numbers (splitmix64).
-pub struct Chance(pub u64);
+use dice::Dice;
 
-impl Chance {
-    pub fn next(&mut self) -> u64 {
-        self.0 = self.0.wrapping_add(0x9E37_79B9_7F4A_7C15);
-        let mut word = self.0;
-        word = (word ^ word >> 30).wrapping_mul(0xBF58_476D_1CE4_E5B9);
-        word = (word ^ word >> 27).wrapping_mul(0x94D0_49BB_1331_11EB);
-        word ^ word >> 31
-    }
-
-    pub fn below(&mut self, limit: u64) -> u64 {
-        self.next() % limit
-    }
-
-    pub fn one_in(&mut self, count: u64) -> bool {
-        self.below(count) == 0
-    }
-
-    pub fn pick<T: Copy>(&mut self, from: &[T]) -> T {
-        from[self.below(from.len() as u64) as usize]
-    }
-
-    /// A number near some edge of what a field may hold.
-    pub fn odd_number(&mut self) -> i64 {
-        let edge = self.pick(&[0, 1 << 15, 1 << 16, 1 << 31, 1 << 32, i64::MAX, 9_999, 100_000]);
-        let near = edge.wrapping_add(self.below(5) as i64 - 2);
-        if self.one_in(2) {
-            near
-        } else {
-            near.wrapping_neg()
-        }
+/// A number near some edge of what a field may hold.
+pub fn odd_number(dice: &mut Dice) -> i64 {
+    let edge = dice.pick(&[0, 1 << 15, 1 << 16, 1 << 31, 1 << 32, i64::MAX, 9_999, 100_000]);
+    let near = edge.wrapping_add(dice.below(5) as i64 - 2);
+    if dice.once_in(2) {
+        near
+    } else {
+        near.wrapping_neg()
     }
 }
 
@@ -52,31 +29,31 @@ pub struct Recording {
 
 impl Recording {
     /// A recording of a few rows; the file is damaged, or the layout another than its own, in a part of them.
-    pub fn made(chance: &mut Chance) -> Recording {
-        let (a, d) = channels(chance);
-        let rows = 1 + chance.below(5) as u32;
-        let kind = chance.below(3) as u32;
-        let wide = kind != 1 && chance.one_in(3);
-        let values: Vec<Vec<i64>> = (0..rows).map(|_| row(chance, a, d, wide)).collect();
+    pub fn made(dice: &mut Dice) -> Recording {
+        let (a, d) = channels(dice);
+        let rows = 1 + dice.below(5) as u32;
+        let kind = dice.below(3) as u32;
+        let wide = kind != 1 && dice.once_in(3);
+        let values: Vec<Vec<i64>> = (0..rows).map(|_| row(dice, a, d, wide)).collect();
         let mut data = match kind {
-            0 => text_file(chance, &values, a as usize),
+            0 => text_file(dice, &values, a as usize),
             _ => binary_file(&values, a as usize, 2 * kind as usize),
         };
-        if chance.one_in(2) {
-            for _ in 0..1 + chance.below(2) {
-                damage(chance, &mut data);
+        if dice.once_in(2) {
+            for _ in 0..1 + dice.below(2) {
+                damage(dice, &mut data);
             }
         }
         let mut made = Recording { a, d, rows, kind, values, data };
-        if chance.one_in(12) {
-            made.change_layout(chance);
+        if dice.once_in(12) {
+            made.change_layout(dice);
         }
         made
     }
 
-    fn change_layout(&mut self, chance: &mut Chance) {
-        let odd = chance.pick(&[0, 1, 2, 3, 97, 257, 1_000_000, 1_000_001, u32::MAX]);
-        match chance.below(4) {
+    fn change_layout(&mut self, dice: &mut Dice) {
+        let odd = dice.pick(&[0, 1, 2, 3, 97, 257, 1_000_000, 1_000_001, u32::MAX]);
+        match dice.below(4) {
             0 => self.a = odd,
             1 => self.d = odd,
             2 => self.rows = odd,
@@ -85,31 +62,31 @@ impl Recording {
     }
 }
 
-fn channels(chance: &mut Chance) -> (u32, u32) {
+fn channels(dice: &mut Dice) -> (u32, u32) {
     let known = [(1, 1), (8, 16), (0, 1), (1, 0), (0, 17), (2, 15), (3, 32), (0, 256), (5, 4), (2, 5), (6, 6)];
-    match chance.below(20) {
+    match dice.below(20) {
         0 => (96, 256),
         1 => (96, 0),
-        2..=9 => (chance.below(6) as u32, 1 + chance.below(40) as u32),
-        _ => chance.pick(&known),
+        2..=9 => (dice.below(6) as u32, 1 + dice.below(40) as u32),
+        _ => dice.pick(&known),
     }
 }
 
 /// A time, samples and statuses.
-fn row(chance: &mut Chance, a: u32, d: u32, wide: bool) -> Vec<i64> {
-    let mut row = vec![match chance.below(4) {
-        0 => chance.pick(&[0, 4_294_967_295, 4_294_967_294, 999_999_999, 1_000_000_000]),
-        _ => (chance.next() as u32 >> chance.below(32)) as i64,
+fn row(dice: &mut Dice, a: u32, d: u32, wide: bool) -> Vec<i64> {
+    let mut row = vec![match dice.below(4) {
+        0 => dice.pick(&[0, 4_294_967_295, 4_294_967_294, 999_999_999, 1_000_000_000]),
+        _ => (dice.word() as u32 >> dice.below(32)) as i64,
     }];
     for _ in 0..a {
-        let sample = match chance.below(6) {
-            0 => chance.pick(&[0, -1, 9, 10, -10, 99, 100, -32_768, 32_767]),
-            1 if wide => chance.pick(&[-2_147_483_648, 2_147_483_647, 32_768, -32_769, 999_999_999, 1_000_000_000]),
-            _ => (chance.next() as i16 >> chance.below(16)).into(),
+        let sample = match dice.below(6) {
+            0 => dice.pick(&[0, -1, 9, 10, -10, 99, 100, -32_768, 32_767]),
+            1 if wide => dice.pick(&[-2_147_483_648, 2_147_483_647, 32_768, -32_769, 999_999_999, 1_000_000_000]),
+            _ => (dice.word() as i16 >> dice.below(16)).into(),
         };
         row.push(sample);
     }
-    row.extend((0..d).map(|_| chance.below(2) as i64));
+    row.extend((0..d).map(|_| dice.below(2) as i64));
     row
 }
 
@@ -130,17 +107,17 @@ fn binary_file(values: &[Vec<i64>], a: usize, width: usize) -> Vec<u8> {
 }
 
 /// A number in one of its forms: plain, or with zeros, a sign and spaces, in at most `most` characters.
-fn text_number(chance: &mut Chance, value: i64, most: usize, signed: bool) -> String {
-    let sign = match (value < 0, signed && chance.one_in(3)) {
+fn text_number(dice: &mut Dice, value: i64, most: usize, signed: bool) -> String {
+    let sign = match (value < 0, signed && dice.once_in(3)) {
         (true, _) => "-",
-        (false, true) => chance.pick(&["+", if value == 0 { "-" } else { "+" }]),
+        (false, true) => dice.pick(&["+", if value == 0 { "-" } else { "+" }]),
         (false, false) => "",
     };
     let mut text = value.unsigned_abs().to_string();
     let free = |text: &str| (most - (text.len() + sign.len()).min(most)) as u64;
-    let zeros = chance.below(free(&text) + 1) as usize;
-    text.insert_str(0, &"0".repeat(if chance.one_in(2) { zeros } else { 0 }));
-    let spaces = chance.below(free(&text) + 1) as usize;
+    let zeros = dice.below(free(&text) + 1) as usize;
+    text.insert_str(0, &"0".repeat(if dice.once_in(2) { zeros } else { 0 }));
+    let spaces = dice.below(free(&text) + 1) as usize;
     format!("{}{sign}{text}", " ".repeat(spaces))
 }
 
@@ -192,31 +169,31 @@ enum Style {
 }
 
 /// One field of a text row in a style: the number in 10 characters, time and samples in 13, statuses in one.
-fn text_field(chance: &mut Chance, style: Style, place: usize, a: usize, value: i64) -> String {
+fn text_field(dice: &mut Dice, style: Style, place: usize, a: usize, value: i64) -> String {
     let most = if place == 0 { 10 } else { 13 };
     match style {
         _ if place > 1 + a => value.to_string(),
         Style::Plain => value.to_string(),
-        Style::Mixed => text_number(chance, value, most, place > 1),
+        Style::Mixed => text_number(dice, value, most, place > 1),
         Style::Longest => format!("{value:most$}"),
     }
 }
 
-fn text_file(chance: &mut Chance, values: &[Vec<i64>], a: usize) -> Vec<u8> {
-    let style = chance.pick(&[Style::Plain, Style::Plain, Style::Mixed, Style::Mixed, Style::Longest]);
-    let odd_row = chance.below(4 * values.len() as u64) as usize + 1;
-    let odd_place = chance.below(1 + values[0].len() as u64) as usize;
+fn text_file(dice: &mut Dice, values: &[Vec<i64>], a: usize) -> Vec<u8> {
+    let style = dice.pick(&[Style::Plain, Style::Plain, Style::Mixed, Style::Mixed, Style::Longest]);
+    let odd_row = dice.below(4 * values.len() as u64) as usize + 1;
+    let odd_place = dice.below(1 + values[0].len() as u64) as usize;
     let mut text = String::new();
     for (n, row) in (1..).zip(values) {
         for (place, &value) in std::iter::once(&n).chain(row).enumerate() {
             text.push_str(if place > 0 { "," } else { "" });
             let odd = (n as usize, place) == (odd_row, odd_place);
-            let field = if odd { chance.pick(ODD_FIELDS).into() } else { text_field(chance, style, place, a, value) };
+            let field = if odd { dice.pick(ODD_FIELDS).into() } else { text_field(dice, style, place, a, value) };
             text.push_str(&field);
         }
         text.push_str("\r\n");
     }
-    text.push_str(chance.pick(&["", "\x1A", "\x1A\r\n", "\x1A\r\n", "\x1A\r", "\r\n", "\x1A\x1A"]));
+    text.push_str(dice.pick(&["", "\x1A", "\x1A\r\n", "\x1A\r\n", "\x1A\r", "\r\n", "\x1A\x1A"]));
     text.into_bytes()
 }
 
@@ -224,21 +201,21 @@ fn text_file(chance: &mut Chance, values: &[Vec<i64>], a: usize) -> Vec<u8> {
 const ODD_BYTES: &[u8] = b",\r\n\x1A 019-+.xehAE\x7F\x80\x00\xFF/:";
 
 /// One small change: a byte set, a bit turned, bytes taken out, put in or doubled, the end cut off.
-pub fn damage(chance: &mut Chance, data: &mut Vec<u8>) {
+pub fn damage(dice: &mut Dice, data: &mut Vec<u8>) {
     let length = data.len() as u64;
-    let at = chance.below(length.max(1)) as usize;
-    match chance.below(8) {
-        _ if data.is_empty() => data.push(chance.pick(ODD_BYTES)),
-        0 | 1 => data[at] = chance.pick(ODD_BYTES),
-        2 => data[at] ^= 1 << chance.below(8),
+    let at = dice.below(length.max(1)) as usize;
+    match dice.below(8) {
+        _ if data.is_empty() => data.push(dice.pick(ODD_BYTES)),
+        0 | 1 => data[at] = dice.pick(ODD_BYTES),
+        2 => data[at] ^= 1 << dice.below(8),
         3 => drop(data.remove(at)),
-        4 => data.insert(at, chance.pick(ODD_BYTES)),
+        4 => data.insert(at, dice.pick(ODD_BYTES)),
         5 => data.truncate(at),
-        6 => data.push(chance.pick(ODD_BYTES)),
+        6 => data.push(dice.pick(ODD_BYTES)),
         _ => {
-            let end = (at + 1 + chance.below(40) as usize).min(data.len());
+            let end = (at + 1 + dice.below(40) as usize).min(data.len());
             let piece = data[at..end].to_vec();
-            let times = chance.pick(&[1, 1, 2, 60]);
+            let times = dice.pick(&[1, 1, 2, 60]);
             data.splice(at..at, piece.repeat(times));
         }
     }

@@ -1,12 +1,14 @@
-//! The names and numbers of include/zagalume.h are those of this crate.
+//! The names and numbers of include/zagalume.h are those of this crate, and its calls those of `zagalume-raw`.
 
 use std::collections::BTreeMap;
 use zagalume::{refused, sizes, Kind};
 
+const HEADER: &str = include_str!("../../../include/zagalume.h");
+
 /// Every `ZL_NAME = NUMBER` of the header.
 fn named() -> BTreeMap<&'static str, usize> {
     let mut names = BTreeMap::new();
-    for line in include_str!("../../../include/zagalume.h").lines() {
+    for line in HEADER.lines() {
         let Some((name, rest)) = line.trim().strip_prefix("ZL_").and_then(|rest| rest.split_once(" = ")) else {
             continue;
         };
@@ -68,4 +70,29 @@ fn sizes_of_the_house() {
     ] {
         assert_eq!(named()[name], size, "{name}");
     }
+}
+
+/// A parameter as Rust declares it: `const uint8_t *cfg` is `cfg: *const u8`.
+fn parameter(in_c: &str) -> String {
+    let words = in_c.replace("uint", "u").replace("int", "i").replace("size_t", "usize").replace("_t", "");
+    let (kind, name) = words.trim().rsplit_once(' ').unwrap();
+    match (name.strip_prefix('*'), kind.strip_prefix("const ")) {
+        (Some(name), Some(kind)) => format!("{name}: *const {kind}"),
+        (Some(name), None) => format!("{name}: *mut {kind}"),
+        (None, _) => format!("{name}: {kind}"),
+    }
+}
+
+#[test]
+fn calls() {
+    let mut theirs = Vec::new();
+    for call in HEADER.split("\nzl_answer ").skip(1) {
+        let (name, rest) = call.split_once('(').unwrap();
+        let parameters: Vec<String> = rest.split_once(");").unwrap().0.split(',').map(parameter).collect();
+        theirs.push(format!("pub fn {name}({}) -> Answer;", parameters.join(", ")));
+    }
+    let lines = include_str!("../../raw/src/lib.rs").lines().map(str::trim);
+    let ours: Vec<&str> = lines.filter(|line| line.starts_with("pub fn ")).collect();
+    assert_eq!(ours, theirs);
+    assert!(!ours.is_empty());
 }

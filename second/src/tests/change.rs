@@ -1,5 +1,6 @@
-use super::{no, yes, Dice, T1, T2, T3};
+use super::{no, yes, T1, T2, T3};
 use crate::{change, check, length, row, write_row, Answer};
+use dice::Dice;
 
 /// The new file, its length asked first, then with exact, ample and too little room; or the refusal.
 fn changed(a: u32, d: u32, rows: u32, kind: u32, data: &[u8], new_kind: u32) -> Result<Vec<u8>, Answer> {
@@ -111,7 +112,7 @@ fn text_takes_its_plain_form() {
 /// Every row of the new file is the row of the old one.
 #[test]
 fn every_row_is_kept() {
-    let mut dice = Dice(11);
+    let mut dice = Dice::new(11);
     for round in 0..150 {
         let (kind, new_kind) = (round % 3, round / 3 % 3);
         let (a, d) = (1 + dice.below(96) as u32, dice.below(257) as u32);

@@ -1,5 +1,6 @@
-use super::{no, yes, Dice, T1, T2, T3};
+use super::{no, yes, T1, T2, T3};
 use crate::{check, row, write_row, Answer};
+use dice::Dice;
 
 /// The places of row n.
 fn shown(a: u32, d: u32, rows: u32, kind: u32, data: &[u8], n: u32) -> Vec<i64> {
@@ -493,7 +494,7 @@ fn the_plain_form() {
 /// Rows written and then shown are the same rows.
 #[test]
 fn what_is_written_is_read_again() {
-    let mut dice = Dice(7);
+    let mut dice = Dice::new(7);
     for round in 0..200 {
         let kind = round % 3;
         let (a, d) = (dice.below(97) as u32, 1 + dice.below(256) as u32);

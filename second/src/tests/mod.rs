@@ -68,14 +68,3 @@ pub fn with(changes: &[(usize, &str)]) -> Vec<u8> {
     }
     join(&lines)
 }
-
-/// Small numbers that look random, always the same.
-pub struct Dice(pub u64);
-
-impl Dice {
-    /// A number from 0 to below `end`.
-    pub fn below(&mut self, end: u64) -> u64 {
-        self.0 = self.0.wrapping_mul(6364136223846793005).wrapping_add(1442695040888963407);
-        (self.0 >> 33) % end
-    }
-}

@@ -23,7 +23,7 @@ use Rattle.text.proofs.LineLaws.{Found, scan-found, line-found}
 use Rattle.model.specs.declared.Layout.{Layout}
 use Rattle.model.specs.declared.Refusal.{Refusal}
 use Rattle.ascii_row.specs.Rows.{checkLine}
-use Rattle.ascii_row.specs.Inner.{RowThere}
+use Rattle.ascii_walk.specs.Inner.{RowThere}
 use Rattle.ascii_file.specs.declared.Checked.the-variants.{Takes, No}
 use Rattle.ascii_file.specs.Files.{scanRow, found, checkRow, isEnding, checkRows, checkedOf, lineLength, lineTaken, afterRows}
 

@@ -41,7 +41,7 @@ pub fn check_row(layout: Layout, n: u32, rest: &[u8]) -> Checked
     requires { ⌜ Sized layout ⌝ }
     ensures { λ r. ⌜ r ≡ checkedOf (checkRow layout n (now (rest .entry))) ⌝ }
 {
-    let taken = ascii_row::row_end(layout, n, rest);
+    let taken = ascii_walk::row_end(layout, n, rest);
     if taken < 1 {
         return check_in_order(layout, n, rest);
     }

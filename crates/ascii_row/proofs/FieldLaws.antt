@@ -2,6 +2,7 @@
 --     time-told, time-below       a timestamp that is read is the field's count, and below 2 ^ 32
 --     sample-told, sample-fits    a sample that is read is the field's whole number, and fits
 --     time-read, sample-read      what a field that is fine is read as
+--     time-fine, sample-fine      what is read as a count or a whole number in its range is fine
 --     status-told, status-not     what is a status and what is not, by its length
 -- Assumes nothing.
 use mathlib.Core.Path.{_≡_, refl}
@@ -9,7 +10,7 @@ use mathlib.Core.Bool.{true, false, _||_}
 use mathlib.Core.List.{List, [], _∷_}
 use Prim.Native.Nat.{ℕ, _<_, _^_, _≤_}
 use native.Mathlib.Omega.{arith}
-use borrow.Author.Tests.{leb-true}
+use borrow.Author.Tests.{leb-true, le-leb}
 use lib.Dec.{eqb, leb}
 use lib.IntN.{ℤ}
 use lib.ListN.{length, getD}
@@ -78,6 +79,14 @@ whole-read whole.Form h = cc
 pub sample-read : (f : List ℕ) → isWhole (readSample f) ≡ true → readWhole f ≡ whole.Is (sampleIn f)
 unfolding sampleIn
 sample-read f h = sample-told f (sampleIn f) (whole-read (readSample f) h) .0
+
+pub time-fine : (f : List ℕ) (v : ℕ) → readCount 1 13 f ≡ count.Is v → v ≤ 4294967295 → isCount (readTime f) ≡ true
+unfolding readTime
+time-fine f v e h = rw (e, le-leb v 4294967295 h)
+
+pub sample-fine : (f : List ℕ) (z : ℤ) → readWhole f ≡ whole.Is z → fitsKind Ascii z ≡ true → isWhole (readSample f) ≡ true
+unfolding readSample
+sample-fine f z e h = rw (e, h)
 
 pub status-told : (f : List ℕ) → length f ≡ 1 → isStatus f ≡ (eqb (getD f 0 0) 48 || eqb (getD f 0 0) 49)
 unfolding isStatus

@@ -16,7 +16,7 @@ use borrow.Author.Tests.{eq-eqb, eqb-true, ne-eqb, le-leb, lt-leb}
 use lib.Dec.{eqb}
 use lib.IntN.{pos}
 use lib.ListN.{getD, drop}
-use Rattle.ground.specs.Said.{says, _>>=_, _>>_, must}
+use Rattle.ground.specs.Said.{says, _>>=_, must}
 use Rattle.ground.proofs.Cases.{lt-or-ge}
 use Rattle.ground.proofs.Filled.{getD-padded, padded-again}
 use Rattle.ground.proofs.SaidLaws.{must-told, must-holds, then-told}

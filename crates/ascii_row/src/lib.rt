@@ -1,6 +1,5 @@
 // Rows of text: whether the line of a row is fine, and the row that it says.
 // Each function gives, on any bytes, exactly what the definition of its name says; a line is walked a fixed number of times, whatever its number of fields.
-// A function named `_end` or `_there` finds where things end as it reads them, and claims something only where it answers more than 0, or true.
 use model::Answer;
 use model::Kind;
 use model::Layout;
@@ -8,10 +7,8 @@ use model::Row;
 use numerals::Count;
 use numerals::Whole;
 ghost use mathlib.Core.Path.{_≡_};
-ghost use mathlib.Core.Bool.{true, false, _&&_};
-ghost use mathlib.Core.List.{[], _∷_};
-ghost use Prim.Native.Nat.{ℕ, _+_, _*_, _≤_, _<_};
-ghost use lib.Dec.{eqb};
+ghost use mathlib.Core.Bool.{true, false};
+ghost use Prim.Native.Nat.{_+_, _≤_, _<_};
 ghost use lib.IntN.{pos};
 ghost use lib.ListN.{length};
 ghost use Rattle.ground.specs.Tables.{tab, padded};
@@ -19,12 +16,10 @@ ghost use Rattle.text.specs.Fields.{fieldAt};
 ghost use Rattle.model.specs.Layouts.{Sized};
 ghost use Rattle.model.specs.Refusals.{answerOf};
 ghost use Rattle.ascii_row.specs.Fields.{readTime, readSample, isStatus, isCount, isWhole, timeIn, sampleIn, statusIn};
-ghost use Rattle.numerals.specs.Inner.{CountThere};
-ghost use Rattle.ascii_row.specs.Inner.{TimeThere, SampleThere, StatusThere, FourThere, Passed, LineEnd, RowThere};
 ghost use Rattle.ascii_row.specs.Rows.{fieldFine, checkFields, checkNumber, checkLine, sampleAt, statusAt, rowOf};
 
-// The highest timestamp.
-const LATEST: u64 = 4294967295;
+// The highest timestamp, as counts are.
+pub const LATEST: u64 = Row::LATEST as u64;
 
 // A timestamp.
 fn read_time(field: &[u8]) -> Count
@@ -184,179 +179,6 @@ pub fn check_line(layout: Layout, n: u32, line: &[u8]) -> Answer
         Answer::Yes => check_fields(a, n, text::after_fields(line, 1), 1 + a + d),
         Answer::No(refusal) => Answer::No(refusal),
     }
-}
-
-// Where the number of row n ends, with which s begins; 0 where it is not read as n.
-fn number_end(n: u32, s: &[u8]) -> usize
-    ensures { λ r. ⌜ (1 ≤ r → CountThere 10 (now (s .entry)) 0 r n) ⌝ }
-{
-    let number = numerals::count_at(s, 0, 10);
-    if number.value != n as u64 {
-        return 0;
-    }
-    number.end
-}
-
-// Where the timestamp after a comma ends; 0 where none is read.
-fn time_end(s: &[u8], at: usize) -> usize
-    requires { ⌜ at < length (now s) ⌝ }
-    ensures { λ r. ⌜ (1 ≤ r → TimeThere (now (s .entry)) at r) ⌝ }
-{
-    if s[at] != 44 {
-        return 0;
-    }
-    let time = numerals::count_at(s, at + 1, 13);
-    if LATEST < time.value {
-        return 0;
-    }
-    time.end
-}
-
-// Where the sample after a comma ends; 0 where none is read.
-fn sample_end(s: &[u8], at: usize) -> usize
-    requires { ⌜ at < length (now s) ⌝ }
-    ensures { λ r. ⌜ (1 ≤ r → SampleThere (now (s .entry)) at r) ⌝ }
-{
-    if s[at] != 44 {
-        return 0;
-    }
-    let kind = Kind::Ascii;
-    let sample = numerals::whole_at(s, at + 1);
-    if !kind.holds(sample.value) {
-        return 0;
-    }
-    sample.end
-}
-
-// Where a samples, each after a comma, end; 0 where one is not read.
-fn samples_end(s: &[u8], at: usize, a: usize) -> usize
-    requires { ⌜ (at < length (now s)) × (a ≤ 96) ⌝ }
-    ensures { λ r. ⌜ (1 ≤ r → (r < length (now (s .entry))) × Passed a (now (s .entry)) 2 at a r) ⌝ }
-{
-    let mut i = at;
-    let mut k: usize = 0;
-    while k < a {
-        let e = sample_end(s, i);
-        if e < 1 {
-            return 0;
-        }
-        i = e;
-        k += 1;
-    }
-    i
-}
-
-// Whether two bytes are a comma and a status.
-fn is_pair(c: u8, b: u8) -> bool
-    ensures { λ r. ⌜ r ≡ (eqb c 44 && isStatus (b ∷ [])) ⌝ }
-{
-    if c != 44 {
-        return false;
-    }
-    if b < 48 {
-        return false;
-    }
-    b <= 49
-}
-
-// Whether a comma and a status stand at a place.
-fn status_there(s: &[u8], i: usize) -> bool
-    requires { ⌜ i + 2 < length (now s) ⌝ }
-    ensures { λ r. ⌜ (r ≡ true → StatusThere (now (s .entry)) i) ⌝ }
-{
-    is_pair(s[i], s[i + 1])
-}
-
-// Whether four of them stand there, tested without a branch.
-fn four_there(s: &[u8], i: usize) -> bool
-    requires { ⌜ i + 8 < length (now s) ⌝ }
-    ensures { λ r. ⌜ (r ≡ true → FourThere (now (s .entry)) i) ⌝ }
-{
-    let p = status_there(s, i);
-    let q = status_there(s, i + 2);
-    let u = status_there(s, i + 4);
-    let v = status_there(s, i + 6);
-    p & q & u & v
-}
-
-// How many of d statuses, each after a comma, are passed four at a time.
-fn pass_fours(s: &[u8], at: usize, d: usize) -> usize
-    requires { ⌜ (at + 2 * d < length (now s)) × (d ≤ 256) ⌝ }
-    ensures { λ r. ⌜ (r ≤ d) × ((a : ℕ) → Passed a (now (s .entry)) (2 + a) at r (at + 2 * r)) ⌝ }
-{
-    let mut k: usize = 0;
-    while k + 4 <= d {
-        if !four_there(s, at + 2 * k) {
-            return k;
-        }
-        k += 4;
-    }
-    k
-}
-
-// Where d statuses, each after a comma, end; 0 where one is not read.
-fn statuses_end(s: &[u8], at: usize, d: usize) -> usize
-    requires { ⌜ (at < length (now s)) × (d ≤ 256) ⌝ }
-    ensures { λ r. ⌜ (1 ≤ r → (r < length (now (s .entry))) × ((a : ℕ) → Passed a (now (s .entry)) (2 + a) at d r)) ⌝ }
-{
-    if s.len() - at <= 2 * d {
-        return 0;
-    }
-    let mut k = pass_fours(s, at, d);
-    while k < d {
-        if !status_there(s, at + 2 * k) {
-            return 0;
-        }
-        k += 1;
-    }
-    at + 2 * d
-}
-
-// How many bytes a line takes with its CR LF, where it ends at a place; 0 where it does not.
-fn line_end(s: &[u8], end: usize) -> usize
-    requires { ⌜ end < length (now s) ⌝ }
-    ensures { λ r. ⌜ (1 ≤ r → LineEnd (now (s .entry)) end r) ⌝ }
-{
-    if 1880 < end {
-        return 0;
-    }
-    let j = end + 1;
-    if s.len() <= j {
-        return 0;
-    }
-    if s[end] != 13 {
-        return 0;
-    }
-    if s[j] != 10 {
-        return 0;
-    }
-    end + 2
-}
-
-// How many bytes row n takes, with which s begins, where one walk reads it through; 0 where it does not, which says nothing of the row.
-pub fn row_end(layout: Layout, n: u32, s: &[u8]) -> usize
-    requires { ⌜ Sized layout ⌝ }
-    ensures { λ r. ⌜ (1 ≤ r → RowThere layout n (now (s .entry)) r) ⌝ }
-{
-    let a = layout.analogs as usize;
-    let d = layout.statuses as usize;
-    let number = number_end(n, s);
-    if number < 1 {
-        return 0;
-    }
-    let time = time_end(s, number);
-    if time < 1 {
-        return 0;
-    }
-    let samples = samples_end(s, time, a);
-    if samples < 1 {
-        return 0;
-    }
-    let end = statuses_end(s, samples, d);
-    if end < 1 {
-        return 0;
-    }
-    line_end(s, end)
 }
 
 // The samples of the fields fill the slice.

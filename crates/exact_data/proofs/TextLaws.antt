@@ -36,8 +36,7 @@ use Rattle.model.specs.Refusals.{refused}
 use Rattle.model.specs.Rows.{trimmed}
 use Rattle.ascii_row.specs.Fields.{readTime, readSample, timeIn, sampleIn, statusIn}
 use Rattle.ascii_row.specs.Rows.{fieldsOf, checkLine, sampleAt, statusAt, rowOf}
-use Rattle.ascii_row.proofs.FieldLaws.{time-below, time-read, sample-fits, sample-read}
-use Rattle.ascii_row.proofs.WalkLaws.{time-fine, sample-fine}
+use Rattle.ascii_row.proofs.FieldLaws.{time-below, time-read, time-fine, sample-fits, sample-read, sample-fine}
 use Rattle.ascii_row.proofs.LineLaws.{FineLine, line-told, line-is, sample-at, status-at, sample-there, status-there, row-trimmed}
 use Rattle.ascii_plain.specs.Rows.{statusChar}
 use Rattle.ascii_file.specs.Files.{scanRow, checkRow, isEnding, checkRows, checkText, lineTaken, firstLine, afterRows, textRow}

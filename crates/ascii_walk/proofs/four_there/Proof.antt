@@ -1,8 +1,8 @@
--- `ascii_row::four_there` meets its contract.
+-- `ascii_walk::four_there` meets its contract.
 use Rattle.ground.proofs.Every.{and-split}
 use borrow.Author.Needs.{needs}
-use Rattle.ascii_row.proofs.four_there.Statement.{statement}
-use Rattle.ascii_row.proofs.four_there.Tie as tie
+use Rattle.ascii_walk.proofs.four_there.Statement.{statement}
+use Rattle.ascii_walk.proofs.four_there.Tie as tie
 
 status-there-requires : tie.Need-status-there-requires
 status-there-requires c κs = search needs

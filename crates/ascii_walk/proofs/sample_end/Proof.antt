@@ -1,6 +1,6 @@
--- `ascii_row::sample_end` meets its contract.
+-- `ascii_walk::sample_end` meets its contract.
 use native.Mathlib.Omega.{arith}
-use Rattle.ascii_row.proofs.WalkLaws.{sample-fine}
+use Rattle.ascii_row.proofs.FieldLaws.{sample-fine}
 use borrow.Author.Tests.{not-false}
 use mathlib.Core.Path.{_≡_, sym, ap, _∙_}
 use Rattle.model.specs.Kinds.{fitsKind}
@@ -8,8 +8,8 @@ use Rattle.model.specs.declared.Kind.the-variants.{Ascii}
 use mir.Val.{toZ, ofZ}
 use mir.Syntax.{w64}
 use borrow.Author.Needs.{needs}
-use Rattle.ascii_row.proofs.sample_end.Statement.{statement}
-use Rattle.ascii_row.proofs.sample_end.Tie as tie
+use Rattle.ascii_walk.proofs.sample_end.Statement.{statement}
+use Rattle.ascii_walk.proofs.sample_end.Tie as tie
 
 shared-slice-read-if1 : tie.Need-shared-slice-read-if1
 shared-slice-read-if1 c = search needs

@@ -1,10 +1,10 @@
--- `ascii_row::is_pair` meets its contract.
+-- `ascii_walk::is_pair` meets its contract.
 use native.Mathlib.Omega.{arith}
 use borrow.Author.Tests.{eq-eqb, ne-eqb}
 use Rattle.ascii_row.specs.Fields.{isStatus}
-use Rattle.ascii_row.proofs.WalkLaws.{status-byte}
-use Rattle.ascii_row.proofs.is_pair.Statement.{statement}
-use Rattle.ascii_row.proofs.is_pair.Tie as tie
+use Rattle.ascii_walk.proofs.WalkLaws.{status-byte}
+use Rattle.ascii_walk.proofs.is_pair.Statement.{statement}
+use Rattle.ascii_walk.proofs.is_pair.Tie as tie
 
 returns : tie.Need-returns
 returns c = rw (ne-eqb _ 44 (c .if1 .taken))

@@ -1,8 +1,8 @@
--- `ascii_row::number_end` meets its contract.
+-- `ascii_walk::number_end` meets its contract.
 use native.Mathlib.Omega.{arith}
 use borrow.Author.Needs.{needs}
-use Rattle.ascii_row.proofs.number_end.Statement.{statement}
-use Rattle.ascii_row.proofs.number_end.Tie as tie
+use Rattle.ascii_walk.proofs.number_end.Statement.{statement}
+use Rattle.ascii_walk.proofs.number_end.Tie as tie
 
 count-at-requires : tie.Need-count-at-requires
 count-at-requires c κs = search needs

@@ -1,12 +1,12 @@
--- `ascii_row::samples_end` meets its contract. The loop's invariant: k samples are passed.
+-- `ascii_walk::samples_end` meets its contract. The loop's invariant: k samples are passed.
 use mathlib.Core.Path.{_≡_, refl}
 use Prim.Native.Nat.{_≤_, _<_, _-_}
 use native.Mathlib.Omega.{arith}
 use lib.ListN.{length}
-use Rattle.ascii_row.specs.Inner.{Passed}
-use Rattle.ascii_row.proofs.WalkLaws.{passed-on, next-sample}
-use Rattle.ascii_row.proofs.samples_end.Statement.{statement}
-use Rattle.ascii_row.proofs.samples_end.Tie as tie
+use Rattle.ascii_walk.specs.Inner.{Passed}
+use Rattle.ascii_walk.proofs.WalkLaws.{passed-on, next-sample}
+use Rattle.ascii_walk.proofs.samples_end.Statement.{statement}
+use Rattle.ascii_walk.proofs.samples_end.Tie as tie
 
 abbrev Inv-loop : tie.InvT-loop
 Inv-loop s at a i₀ k₀ i k = (k ≤ a) × (i < length s) × Passed a s 2 at k i

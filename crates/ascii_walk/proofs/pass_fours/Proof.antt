@@ -1,11 +1,11 @@
--- `ascii_row::pass_fours` meets its contract. The loop's invariant: k statuses are passed, two bytes each.
+-- `ascii_walk::pass_fours` meets its contract. The loop's invariant: k statuses are passed, two bytes each.
 use Prim.Native.Nat.{ℕ, _≤_, _+_, _-_, _*_}
 use native.Mathlib.Omega.{arith}
 use borrow.Author.Tests.{not-false}
-use Rattle.ascii_row.specs.Inner.{Passed}
-use Rattle.ascii_row.proofs.WalkLaws.{passed-four}
-use Rattle.ascii_row.proofs.pass_fours.Statement.{statement}
-use Rattle.ascii_row.proofs.pass_fours.Tie as tie
+use Rattle.ascii_walk.specs.Inner.{Passed}
+use Rattle.ascii_walk.proofs.WalkLaws.{passed-four}
+use Rattle.ascii_walk.proofs.pass_fours.Statement.{statement}
+use Rattle.ascii_walk.proofs.pass_fours.Tie as tie
 
 abbrev Inv-loop : tie.InvT-loop
 Inv-loop s at d k₀ k = (k ≤ d) × ((a : ℕ) → Passed a s (2 + a) at k (at + 2 * k))

@@ -1,9 +1,9 @@
--- `ascii_row::time_end` meets its contract.
+-- `ascii_walk::time_end` meets its contract.
 use native.Mathlib.Omega.{arith}
-use Rattle.ascii_row.proofs.WalkLaws.{time-fine}
+use Rattle.ascii_row.proofs.FieldLaws.{time-fine}
 use borrow.Author.Needs.{needs}
-use Rattle.ascii_row.proofs.time_end.Statement.{statement}
-use Rattle.ascii_row.proofs.time_end.Tie as tie
+use Rattle.ascii_walk.proofs.time_end.Statement.{statement}
+use Rattle.ascii_walk.proofs.time_end.Tie as tie
 
 shared-slice-read-if1 : tie.Need-shared-slice-read-if1
 shared-slice-read-if1 c = search needs

@@ -1,9 +1,9 @@
--- `ascii_row::row_end` meets its contract: each part was read from where the one before it ends.
+-- `ascii_walk::row_end` meets its contract: each part was read from where the one before it ends.
 use native.Mathlib.Omega.{arith}
-use Rattle.ascii_row.proofs.WalkLaws.{next-time, row-there}
+use Rattle.ascii_walk.proofs.WalkLaws.{next-time, row-there}
 use borrow.Author.Needs.{needs}
-use Rattle.ascii_row.proofs.row_end.Statement.{statement}
-use Rattle.ascii_row.proofs.row_end.Tie as tie
+use Rattle.ascii_walk.proofs.row_end.Statement.{statement}
+use Rattle.ascii_walk.proofs.row_end.Tie as tie
 
 cast-a : tie.Need-cast-a
 cast-a c = search needs

@@ -1,12 +1,12 @@
--- `ascii_row::status_there` meets its contract.
+-- `ascii_walk::status_there` meets its contract.
 use mathlib.Core.Path.{sym, _∙_}
 use native.Mathlib.Omega.{arith}
 use borrow.Author.Tests.{eqb-true}
 use Rattle.ground.proofs.Every.{and-split}
-use Rattle.ascii_row.proofs.WalkLaws.{status-fine}
+use Rattle.ascii_walk.proofs.WalkLaws.{status-fine}
 use borrow.Author.Needs.{needs}
-use Rattle.ascii_row.proofs.status_there.Statement.{statement}
-use Rattle.ascii_row.proofs.status_there.Tie as tie
+use Rattle.ascii_walk.proofs.status_there.Statement.{statement}
+use Rattle.ascii_walk.proofs.status_there.Tie as tie
 
 shared-slice-read-is-pair : tie.Need-shared-slice-read-is-pair
 shared-slice-read-is-pair c = search needs

@@ -1,7 +1,7 @@
 -- Laws of a walk over a text row.
 --     Clean                                     no comma, and only bytes that a line may have
 --     count-clean, whole-clean, fine-clean      what reads as a number, and a field that is fine, is so
---     time-fine, sample-fine, status-fine       what is read where it stands is fine there
+--     status-fine                               a status that is read where it stands is fine there
 --     status-byte                               the byte of a status, as an order
 --     next-time, next-sample, next-status       so it is the next field
 --     passed-on                                 one field more is passed
@@ -40,13 +40,11 @@ use Rattle.numerals.specs.Inner.{CountThere}
 use Rattle.numerals.proofs.CountLaws.{digit-bounds}
 use Rattle.numerals.proofs.WholeLaws.{from-count, in-length}
 use Rattle.model.specs.declared.Layout.{Layout}
-use Rattle.model.specs.declared.Kind.the-variants.{Ascii}
-use Rattle.model.specs.Kinds.{fitsKind}
-use Rattle.ascii_row.specs.Fields.{readTime, readSample, isStatus, isCount, isWhole}
+use Rattle.ascii_row.specs.Fields.{isStatus}
 use Rattle.ascii_row.specs.Rows.{fieldsOf, fieldFine, checkFields, checkNumber, checkLine}
-use Rattle.ascii_row.specs.Inner.{FieldThere, Next, TimeThere, SampleThere, StatusThere, FourThere, Passed, RowThere}
+use Rattle.ascii_walk.specs.Inner.{FieldThere, Next, TimeThere, SampleThere, StatusThere, FourThere, Passed, RowThere}
 use Rattle.ascii_row.proofs.FieldLaws.{time-read, sample-read}
 use Rattle.ascii_row.proofs.LineLaws.{of-time, of-sample, of-status}
 
 pub record Clean (f : List ℕ) : Type 0 where
   pub plain : commas f ≡ 0
@@ -121,15 +119,6 @@ unfolding fieldFine
 fine-clean a k f e =
     on-test (eqb k 2) (λ t. count-clean 1 13 f _ (time-read f (rw t at e))) (λ t.
     on-test (leb k (2 + a)) (λ u. whole-clean f _ (sample-read f (rw (t, u) at e))) (λ u. status-clean f (rw (t, u) at e)))
-
--- what is read where it stands is fine there
-pub time-fine : (f : List ℕ) (v : ℕ) → readCount 1 13 f ≡ count.Is v → v ≤ 4294967295 → isCount (readTime f) ≡ true
-unfolding readTime
-time-fine f v e h = rw (e, le-leb v 4294967295 h)
-
-pub sample-fine : (f : List ℕ) (z : ℤ) → readWhole f ≡ whole.Is z → fitsKind Ascii z ≡ true → isWhole (readSample f) ≡ true
-unfolding readSample
-sample-fine f z e h = rw (e, h)
 
 pub status-fine : (s : List ℕ) (i : ℕ) → i + 2 < length s → isStatus (part (i + 1) (i + 2) s) ≡ isStatus (getD s (i + 1) 0 ∷ [])
 status-fine s i w =

@@ -1,0 +1,55 @@
+-- NOTHING TO BELIEVE HERE: no contract of a public call cites this. Law `row-recoded` (crates/recode/proofs/RowLaws.antt) says that samples that are recoded are those of the row.
+-- A sample goes through three definitions alone: the sample that bytes are, whether it fits, and the bytes of a sample.
+use mathlib.Core.Path.{_≡_}
+use mathlib.Core.List.{List}
+use Prim.Native.Nat.{ℕ, zero, suc, _+_, _*_}
+use lib.IntN.{ℤ}
+use Rattle.ground.specs.Choice.{if_then_else_}
+use Rattle.ground.specs.Tables.{part, tab, cat}
+use Rattle.words.specs.Words.{wordOf, wordBytes}
+use Rattle.words.specs.Signed.{signedOf, unsignedOf}
+use Rattle.model.specs.declared.Kind.{Kind}
+use Rattle.model.specs.declared.Kind.the-variants.{Binary, Binary32}
+use Rattle.model.specs.Kinds.{widthOf, halfOf, fitsKind}
+use Rattle.model.specs.Rows.{misfit}
+
+-- the sample that bytes are in a kind
+abbrev pub sampleOf : Kind → List ℕ → ℤ
+sampleOf k b = signedOf (halfOf k) (wordOf b)
+
+-- the bytes of a sample in a kind
+abbrev pub codeOf : Kind → ℤ → List ℕ
+codeOf k z = wordBytes (widthOf k) (unsignedOf (halfOf k) z)
+
+-- the bytes of sample i among samples of a kind
+abbrev pub bytesAt : Kind → List ℕ → ℕ → List ℕ
+bytesAt k b i = part (i * widthOf k) (i * widthOf k + widthOf k) b
+
+-- a samples of kind k, as numbers
+abbrev pub samplesIn : Kind → ℕ → List ℕ → List ℤ
+samplesIn k a b = tab (λ i. sampleOf k (bytesAt k b i)) a
+
+-- the bytes of a sample of kind k, in kind m
+unfoldable pub recoded : Kind → Kind → List ℕ → List ℕ
+recoded k m b = codeOf m (sampleOf k b)
+
+-- the bytes of a samples of kind k, in kind m
+unfoldable pub recodedAll : Kind → Kind → ℕ → List ℕ → List ℕ
+recodedAll k m a b = cat (λ i. recoded k m (bytesAt k b i)) a
+
+-- whether a sample of 32 bits does not fit in 16: 1 or 0
+unfoldable pub strayOf : List ℕ → ℕ
+strayOf b = if fitsKind Binary (sampleOf Binary32 b) then 0 else 1
+
+-- how many of a samples of 32 bits do not
+unfoldable pub straysOf : List ℕ → ℕ → ℕ
+straysOf b zero = 0
+straysOf b (suc a) = straysOf b a + strayOf (bytesAt Binary32 b a)
+
+-- the first of a samples of 32 bits that does not fit in 16, or a
+unfoldable pub firstStray : ℕ → List ℕ → ℕ
+firstStray a b = misfit Binary (samplesIn Binary32 a b) a
+
+-- each of a samples of 32 bits fits in 16
+abbrev pub NoStray : ℕ → List ℕ → Type 0
+NoStray a b = firstStray a b ≡ a

@@ -21,7 +21,7 @@ use Rattle.model.specs.declared.Layout.{Layout}
 use Rattle.model.specs.Kinds.{widthOf, halfOf}
 use Rattle.model.specs.Refusals.{refused}
 use Rattle.model.specs.Rows.{trimmed, misfit}
-use Rattle.model.proofs.KindLaws.{half-twice}
+use Rattle.model.proofs.KindLaws.{kind-half-twice}
 use Rattle.binary_row.specs.Rows.{samplesEnd, numberOfRow, samplesPart, wordsPart, sampleAt, statusAt, paddingFree, checkRow, rowOf}
 use Rattle.ground.proofs.Filled.{getD-padded, padded-again}
 use Rattle.model.proofs.KindLaws.{size-fits}
@@ -45,7 +45,7 @@ row-fits l b h =
     all-misfit k (padded g (l .analogs) 96 (pos 0)) (l .analogs)
     (λ i q.
     let u : wordOf (part (i * widthOf k) (i * widthOf k + widthOf k) p) < halfOf k + halfOf k
-    = rw half-twice (wordOf-part-lt p (i * widthOf k) (i * widthOf k + widthOf k) (widthOf k) (bytes-part 8 (samplesEnd l) b h) (omega arith)) in
+    = rw kind-half-twice (wordOf-part-lt p (i * widthOf k) (i * widthOf k + widthOf k) (widthOf k) (bytes-part 8 (samplesEnd l) b h) (omega arith)) in
     rw (getD-padded g (l .analogs) 96 i (pos 0) (pos 0) q) (size-fits k (g i) (signed-small (halfOf k) _ u)))
 
 pub row-trimmed : (l : Layout) (b : List ℕ) → trimmed l (rowOf l b) ≡ rowOf l b

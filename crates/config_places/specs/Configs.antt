@@ -4,7 +4,7 @@ use Prim.Native.Nat.{ℕ}
 use lib.IntN.{ℤ, pos}
 use lib.ListN.{getD}
 use Rattle.ground.specs.Tables.{tab}
-use Rattle.model.specs.Kinds.{numberOf}
+use Rattle.model.specs.Kinds.{kindNumber}
 use Rattle.config_rules.specs.declared.Config.{Config}
 use Rattle.config_rules.specs.declared.Moment.{Moment}
 use Rattle.row_places.specs.Rows.{boolPlace}
@@ -34,7 +34,7 @@ abbrev pub otherPlaces : Config → List ℤ
 otherPlaces c =
     c .pretrigger .seconds
     ∷ pos (c .pretrigger .nanoseconds)
-    ∷ pos (numberOf (c .layout .kind))
+    ∷ pos (kindNumber (c .layout .kind))
     ∷ c .code
     ∷ boolPlace (c .x)
     ∷ c .local

@@ -13,7 +13,7 @@ use types.Run.{OneOf}
 use Rattle.model.proofs.Kind.{the-type}
 use Rattle.model.specs.declared.Kind.{Kind}
 use Rattle.model.specs.declared.Kind.the-variants.{Ascii, Binary, Binary32}
-use Rattle.model.specs.Kinds.{numberOf}
+use Rattle.model.specs.Kinds.{kindNumber}
 use Rattle.row_bytes.specs.Rows.{byKind}
 
 pub binary-arm : {A : Type 0} (k : Kind) (text binary : A) → OneOf (1 ∷ (2 ∷ [])) (tagOf the-type k) → byKind k text binary ≡ binary
@@ -34,5 +34,5 @@ binary-kind Binary32 text binary h = refl
 
 pub by-kind : {C : Type 0} (k : Kind) → (k ≡ Ascii → C) → ((k ≡ Ascii → ⊥) → C) → C
 by-kind Ascii f g = f refl
-by-kind Binary f g = g (λ e. let q : 1 ≡ 0 = ap numberOf e in absurd (omega arith))
-by-kind Binary32 f g = g (λ e. let q : 2 ≡ 0 = ap numberOf e in absurd (omega arith))
+by-kind Binary f g = g (λ e. let q : 1 ≡ 0 = ap kindNumber e in absurd (omega arith))
+by-kind Binary32 f g = g (λ e. let q : 2 ≡ 0 = ap kindNumber e in absurd (omega arith))

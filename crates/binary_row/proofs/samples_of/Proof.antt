@@ -13,7 +13,7 @@ use Rattle.ground.proofs.Parts.{length-part-le}
 use Rattle.ground.proofs.Tables.{block-end, padded-set}
 use Rattle.words.proofs.WordLaws.{all-bytes, wordOf-part-lt}
 use Rattle.model.specs.Kinds.{widthOf}
-use Rattle.model.proofs.KindLaws.{half-le, half-twice, width-le}
+use Rattle.model.proofs.KindLaws.{half-le, kind-half-twice, width-le}
 use Rattle.binary_row.specs.Rows.{sampleAt}
 use Rattle.binary_row.proofs.samples_of.Statement.{statement}
 use Rattle.binary_row.proofs.samples_of.Tie as tie
@@ -70,7 +70,7 @@ signed-of-requires c κs =
     let known = all-bytes b (c .before .before .before .before .before .before .shared-slice-known .given) in
     let short : f + w - f ≤ widthOf k = rw (c .before .before .before .before .before .width .ensures) (omega arith) in
     let n : c .word-of .result < 256 ^ widthOf k = rw (c .word-of .ensures) (wordOf-part-lt b f (f + w) (widthOf k) known short) in
-    rw (c .before .before .before .before .half .ensures) (half-le k, rw half-twice n)
+    rw (c .before .before .before .before .half .ensures) (half-le k, rw kind-half-twice n)
 
 mul-out : tie.Need-mul-out Inv-loop μ-loop
 mul-out c = search needs

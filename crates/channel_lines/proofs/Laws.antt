@@ -15,7 +15,8 @@ use Rattle.fields.specs.Fields.{readCountIn, readLettered}
 use Rattle.line_fields.specs.declared.Fault.{Fault}
 use Rattle.line_fields.specs.Checks.{fault, value}
 use Rattle.line_fields.proofs.ValueLaws.{value-ge, lettered-le, number-told}
-use Rattle.channel_lines.specs.Channels.{channelsLine, channelsOf}
+use Rattle.channel_lines.specs.Channels.{channelsLine}
+use Rattle.channel_lines.specs.Answers.{channelsOf}
 
 pub channels-said : (l : List ℕ) (v : ℕ × ℕ) → channelsLine l ≡ says v → (v .0 ≤ 96) × (v .1 ≤ 256) × (1 ≤ v .0 + v .1)
 unfolding channelsLine

@@ -12,8 +12,7 @@ use Rattle.reals.specs.declared.Limit.the-variants.{Is, Form, Range}
 use Rattle.reals.specs.Exact.{readLimit, maxBelow}
 use Rattle.line_fields.specs.declared.Fault.{Fault}
 use Rattle.line_fields.specs.Faults.{textFault, indexFault, realFault, sideFault, stateFault}
-use Rattle.line_fields.specs.Checks.{fault, fields, fine, value}
-use Rattle.channel_lines.specs.declared.Channels.{Channels}
+use Rattle.line_fields.specs.Checks.{fault, hasFields, faultless, value}
 
 -- what was read in field k as min or max: 5 for its form, 6 for a value that is not allowed
 abbrev pub limitAt : ℕ → Limit → Said Fault Exact
@@ -24,7 +23,7 @@ limitAt k Range = refuses (fault 6 k)
 -- TT, A followed by "A", D followed by "D"; TT is their sum. A and D are said
 unfoldable pub channelsLine : List ℕ → Said Fault (ℕ × ℕ)
 channelsLine l = do
-  fields 3 l
+  hasFields 3 l
   t ← value 1 (readCountIn 6 1 352) l
   a ← value 2 (readLettered 65 96) l
   d ← value 3 (readLettered 68 256) l
@@ -34,19 +33,19 @@ channelsLine l = do
 -- a channel's line of n fields: index, name, phase, circuit
 unfoldable pub names : ℕ → ℕ → List ℕ → Said Fault (Unit {0})
 names n i l = do
-  fields n l
-  fine 1 (indexFault i) l
-  fine 2 (textFault 1 128) l
-  fine 3 (textFault 0 2) l
-  fine 4 (textFault 0 64) l
+  hasFields n l
+  faultless 1 (indexFault i) l
+  faultless 2 (textFault 1 128) l
+  faultless 3 (textFault 0 2) l
+  faultless 4 (textFault 0 64) l
 
 -- unit, a, b, skew
 unfoldable pub scale : List ℕ → Said Fault (Unit {0})
 scale l = do
-  fine 5 (textFault 1 32) l
-  fine 6 realFault l
-  fine 7 realFault l
-  fine 8 realFault l
+  faultless 5 (textFault 1 32) l
+  faultless 6 realFault l
+  faultless 7 realFault l
+  faultless 8 realFault l
 
 -- min and max, of which max is not below min
 unfoldable pub limits : List ℕ → Said Fault (Unit {0})
@@ -61,17 +60,12 @@ analogLine i l = do
   names 13 i l
   scale l
   limits l
-  fine 11 realFault l
-  fine 12 realFault l
-  fine 13 sideFault l
+  faultless 11 realFault l
+  faultless 12 realFault l
+  faultless 13 sideFault l
 
 -- status channel i: index, name, phase, circuit, normal state
 unfoldable pub statusLine : ℕ → List ℕ → Said Fault (Unit {0})
 statusLine i l = do
   names 5 i l
-  fine 5 stateFault l
-
--- what the code answers for the counts: A and D, or the line's fault and zeros beside it
-abbrev pub channelsOf : Said Fault (ℕ × ℕ) → Channels
-channelsOf (says (a, d)) = record { fault = fault 0 0; analogs = a; statuses = d }
-channelsOf (refuses f) = record { fault = f; analogs = 0; statuses = 0 }
+  faultless 5 stateFault l

@@ -12,8 +12,9 @@ use reals::Exact;
 use reals::Limit;
 ghost use mathlib.Core.Path.{_≡_};
 ghost use Rattle.reals.specs.Exact.{Sound};
-ghost use Rattle.line_fields.specs.Checks.{faultOf};
-ghost use Rattle.channel_lines.specs.Channels.{channelsLine, names, scale, limits, analogLine, statusLine, channelsOf};
+ghost use Rattle.line_fields.specs.Answers.{faultOf};
+ghost use Rattle.channel_lines.specs.Channels.{channelsLine, names, scale, limits, analogLine, statusLine};
+ghost use Rattle.channel_lines.specs.Answers.{channelsOf};
 ghost use Rattle.channel_lines.specs.Inner.{maxFrom};
 
 pub struct Channels {

@@ -24,7 +24,8 @@ use Rattle.ground.proofs.Every.{and-split}
 use Rattle.clock.specs.declared.Date.{Date}
 use Rattle.clock.specs.declared.DateField.the-variants.{Is, Form, Range}
 use Rattle.patterns.specs.Patterns.{between, fitsPattern}
-use Rattle.clock.specs.Dates.{leapYear, shortMonth, monthDays, validDate, datePattern, dateOf, readDate, daysOfYears, daysOfMonths, dayNumber, nextDay}
+use Rattle.clock.specs.Dates.{leapYear, shortMonth, monthDays, validDate, datePattern, dateOf, readDate, daysOfYears, daysOfMonths, dayNumber}
+use Rattle.clock.specs.Inner.{nextDay}
 use Rattle.patterns.proofs.PatternLaws.{between-bounds, between-is, chosen}
 
 pub date-bounds : (x : Date) → validDate x ≡ true

@@ -22,7 +22,8 @@ use Rattle.clock.specs.declared.Date.{Date}
 use Rattle.clock.specs.declared.Time.{Time}
 use Rattle.clock.specs.Dates.{validDate, dayNumber}
 use Rattle.clock.specs.Times.{validTime, secondOfDay}
-use Rattle.clock.specs.Spans.{secondNumber, spanOf, preTrigger, inNanoseconds}
+use Rattle.clock.specs.Spans.{secondNumber, spanOf, preTrigger}
+use Rattle.clock.specs.Inner.{inNanoseconds}
 use Rattle.clock.proofs.DateLaws.{day-size}
 use Rattle.clock.proofs.TimeLaws.{second-at-most, time-bounds}
 

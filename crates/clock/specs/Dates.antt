@@ -2,7 +2,7 @@
 use Prim.Native.Nat.{ℕ, zero, suc, _+_, _-_, _*_, _/_, _%_}
 use mathlib.Core.Bool.{Bool, true, false, _&&_, _||_}
 use mathlib.Core.List.{List}
-use lib.Dec.{eqb, ltb}
+use lib.Dec.{eqb}
 use lib.IntN.{ℤ, pos}
 use Rattle.ground.specs.Quoted.{quoted}
 use Rattle.ground.specs.Choice.{if_then_else_}
@@ -51,10 +51,3 @@ daysOfMonths y (suc n) = daysOfMonths y n + monthDays y (suc n)
 -- the number of a day: 01/01/0001 is day 1
 unfoldable pub dayNumber : Date → ℤ
 dayNumber x = pos (daysOfYears (x .year - 1) + daysOfMonths (x .year) (x .month - 1) + x .day)
-
--- the day after
-unfoldable pub nextDay : Date → Date
-nextDay x =
-    if ltb (x .day) (monthDays (x .year) (x .month)) then record { day = x .day + 1; month = x .month; year = x .year }
-    else if ltb (x .month) 12 then record { day = 1; month = x .month + 1; year = x .year }
-    else record { day = 1; month = 1; year = x .year + 1 }

@@ -1,3 +1,4 @@
 pub mod Dates
 pub mod Times
 pub mod Spans
+pub mod Inner

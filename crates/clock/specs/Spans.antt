@@ -23,7 +23,3 @@ spanOf z n m =
 unfoldable pub preTrigger : Date → Time → Date → Time → Span
 preTrigger firstDate firstTime triggerDate triggerTime =
     spanOf (secondNumber triggerDate triggerTime -ℤ secondNumber firstDate firstTime) (firstTime .nanosecond) (triggerTime .nanosecond)
-
--- seconds and nanoseconds together, in nanoseconds
-unfoldable pub inNanoseconds : ℤ → ℕ → ℤ
-inNanoseconds z n = z *ℤ pos 1_000_000_000 +ℤ pos n

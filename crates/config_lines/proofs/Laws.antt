@@ -31,9 +31,9 @@ use Rattle.line_fields.specs.Faults.{rateFault}
 use Rattle.line_fields.specs.Checks.{fault, value}
 use Rattle.line_fields.proofs.PlaceLaws.{Ruled, fault-numbered}
 use Rattle.line_fields.proofs.ValueLaws.{value-le, value-ge, quality-small, leap-small, number-told}
-use Rattle.config_lines.specs.declared.Dated.{Dated}
 use Rattle.config_lines.specs.Lines.{dateAt, timeAt, ratesLine, rateLine, dateLine, qualityLine}
 use Rattle.config_lines.specs.Answers.{countedOf, datedOf, qualityOf}
+use Rattle.config_lines.specs.Inner.{Calendar}
 use Rattle.config_lines.proofs.PlaceLaws.{date-line-ruled}
 
 pub rates-said : (l : List ℕ) (v : ℕ) → ratesLine l ≡ says v → v ≤ 8
@@ -110,13 +110,9 @@ codes-small (refuses f) h = (omega arith, omega arith)
 pub quality-le : (l : List ℕ) → (qualityOf (qualityLine l) .quality ≤ 15) × (qualityOf (qualityLine l) .leap ≤ 3)
 quality-le l = codes-small (qualityLine l) (quality-said l)
 
--- where it is fine, its date and time are of the calendar
-abbrev pub Fine : Dated → Type 0
-Fine d = d .fault .number ≡ 0 → (validDate (d .date) ≡ true) × (validTime (d .time) ≡ true)
+dated-calendar : (x : Said Fault (Date × Time)) → Ruled x → ((v : Date × Time) → x ≡ says v → (validDate (v .0) ≡ true) × (validTime (v .1) ≡ true)) → Calendar (datedOf x)
+dated-calendar (says v) n h e = h v refl
+dated-calendar (refuses f) n h e = absurd (fault-numbered n e)
 
-fine-dated : (x : Said Fault (Date × Time)) → Ruled x → ((v : Date × Time) → x ≡ says v → (validDate (v .0) ≡ true) × (validTime (v .1) ≡ true)) → Fine (datedOf x)
-fine-dated (says v) n h e = h v refl
-fine-dated (refuses f) n h e = absurd (fault-numbered n e)
-
-pub date-valid : (l : List ℕ) → Fine (datedOf (dateLine l))
-date-valid l = fine-dated (dateLine l) (date-line-ruled l) (date-said l)
+pub date-valid : (l : List ℕ) → Calendar (datedOf (dateLine l))
+date-valid l = dated-calendar (dateLine l) (date-line-ruled l) (date-said l)

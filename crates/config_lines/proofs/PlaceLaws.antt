@@ -1,5 +1,5 @@
 -- What a line that speaks of no channel refuses with: each number at its place.
---     first-ruled, frequency-ruled, rates-ruled, rate-ruled, date-line-ruled, kind-line-ruled, multiplier-ruled, codes-ruled, quality-ruled     each line's rule
+--     station-ruled, frequency-ruled, rates-ruled, rate-ruled, date-line-ruled, kind-line-ruled, multiplier-ruled, codes-ruled, quality-ruled     each line's rule
 -- Assumes nothing.
 use mathlib.Core.Bool.{Bool}
 use mathlib.Core.List.{List}
@@ -20,9 +20,9 @@ use Rattle.codes.specs.declared.Code.{Code}
 use Rattle.codes.specs.declared.Code.the-variants as code
 use Rattle.codes.specs.Codes.{readCode, readLocalCode}
 use Rattle.line_fields.specs.Faults.{textFault, yearFault, frequencyFault, aboveFault, rateFault}
-use Rattle.line_fields.specs.Checks.{fault, fields, fine, value}
-use Rattle.line_fields.proofs.PlaceLaws.{form, range, Ruled, text-check, year-check, frequency-check, above-check, rate-check, fields-ruled, then-ruled, bind-ruled, fine-ruled, agrees-ruled, number-ruled}
-use Rattle.config_lines.specs.Lines.{dateAt, timeAt, kindAt, codeAt, localAt, firstLine, frequencyLine, ratesLine, rateLine, dateLine, kindLine, multiplierLine, codesLine, qualityLine}
+use Rattle.line_fields.specs.Checks.{fault, hasFields, faultless, value}
+use Rattle.line_fields.proofs.PlaceLaws.{form, range, Ruled, text-check, year-check, frequency-check, above-check, rate-check, has-fields-ruled, then-ruled, bind-ruled, faultless-ruled, agrees-ruled, number-ruled}
+use Rattle.config_lines.specs.Lines.{dateAt, timeAt, kindAt, codeAt, localAt, stationLine, frequencyLine, ratesLine, rateLine, dateLine, kindLine, multiplierLine, codesLine, qualityLine}
 
 -- field k, from the first on
 module _ (k : ℕ) (h : 1 ≤ k) where
@@ -54,55 +54,55 @@ module _ (k : ℕ) (h : 1 ≤ k) where
   local-ruled code.Range = range k h
 
 -- The lines
-pub first-ruled : (l : List ℕ) → Ruled (firstLine l)
-unfolding firstLine
-first-ruled l =
-    then-ruled (fields 3 l) _ (fields-ruled 3 l)
-    (then-ruled (fine 1 (textFault 0 64) l) _ (fine-ruled 1 (lit≤ tt) (textFault 0 64) l (text-check 0 64))
-    (then-ruled (fine 2 (textFault 0 64) l) _ (fine-ruled 2 (lit≤ tt) (textFault 0 64) l (text-check 0 64))
-    (fine-ruled 3 (lit≤ tt) yearFault l year-check)))
+pub station-ruled : (l : List ℕ) → Ruled (stationLine l)
+unfolding stationLine
+station-ruled l =
+    then-ruled (hasFields 3 l) _ (has-fields-ruled 3 l)
+    (then-ruled (faultless 1 (textFault 0 64) l) _ (faultless-ruled 1 (lit≤ tt) (textFault 0 64) l (text-check 0 64))
+    (then-ruled (faultless 2 (textFault 0 64) l) _ (faultless-ruled 2 (lit≤ tt) (textFault 0 64) l (text-check 0 64))
+    (faultless-ruled 3 (lit≤ tt) yearFault l year-check)))
 
 pub frequency-ruled : (l : List ℕ) → Ruled (frequencyLine l)
 unfolding frequencyLine
-frequency-ruled l = then-ruled (fields 1 l) _ (fields-ruled 1 l) (fine-ruled 1 (lit≤ tt) frequencyFault l frequency-check)
+frequency-ruled l = then-ruled (hasFields 1 l) _ (has-fields-ruled 1 l) (faultless-ruled 1 (lit≤ tt) frequencyFault l frequency-check)
 
 pub rates-ruled : (l : List ℕ) → Ruled (ratesLine l)
 unfolding ratesLine
-rates-ruled l = then-ruled (fields 1 l) _ (fields-ruled 1 l) (number-ruled 1 (lit≤ tt) (readCountIn 3 0 8 (fieldAt 1 l)))
+rates-ruled l = then-ruled (hasFields 1 l) _ (has-fields-ruled 1 l) (number-ruled 1 (lit≤ tt) (readCountIn 3 0 8 (fieldAt 1 l)))
 
 pub rate-ruled : (none : Bool) (before : ℕ) (l : List ℕ) → Ruled (rateLine none before l)
 unfolding rateLine
 rate-ruled none before l =
-    then-ruled (fields 2 l) _ (fields-ruled 2 l)
-    (then-ruled (fine 1 (rateFault none) l) _ (fine-ruled 1 (lit≤ tt) (rateFault none) l (rate-check none))
+    then-ruled (hasFields 2 l) _ (has-fields-ruled 2 l)
+    (then-ruled (faultless 1 (rateFault none) l) _ (faultless-ruled 1 (lit≤ tt) (rateFault none) l (rate-check none))
     (bind-ruled (value 2 (readCountIn 10 1 1000000) l) _ (number-ruled 2 (lit≤ tt) (readCountIn 10 1 1000000 (fieldAt 2 l))) (λ last.
     then-ruled (must (ltb before last) (fault 7 2)) _ (agrees-ruled 2 (lit≤ tt) (ltb before last)) tt)))
 
 pub date-line-ruled : (l : List ℕ) → Ruled (dateLine l)
 unfolding dateLine
 date-line-ruled l =
-    then-ruled (fields 2 l) _ (fields-ruled 2 l)
+    then-ruled (hasFields 2 l) _ (has-fields-ruled 2 l)
     (bind-ruled (dateAt 1 (readDate (fieldAt 1 l))) _ (date-ruled 1 (lit≤ tt) (readDate (fieldAt 1 l))) (λ d.
     bind-ruled (timeAt 2 (readTime (fieldAt 2 l))) _ (time-ruled 2 (lit≤ tt) (readTime (fieldAt 2 l))) (λ t. tt)))
 
 pub kind-line-ruled : (l : List ℕ) → Ruled (kindLine l)
 unfolding kindLine
-kind-line-ruled l = then-ruled (fields 1 l) _ (fields-ruled 1 l) (kind-ruled 1 (lit≤ tt) (readKind (fieldAt 1 l)))
+kind-line-ruled l = then-ruled (hasFields 1 l) _ (has-fields-ruled 1 l) (kind-ruled 1 (lit≤ tt) (readKind (fieldAt 1 l)))
 
 pub multiplier-ruled : (l : List ℕ) → Ruled (multiplierLine l)
 unfolding multiplierLine
-multiplier-ruled l = then-ruled (fields 1 l) _ (fields-ruled 1 l) (fine-ruled 1 (lit≤ tt) aboveFault l above-check)
+multiplier-ruled l = then-ruled (hasFields 1 l) _ (has-fields-ruled 1 l) (faultless-ruled 1 (lit≤ tt) aboveFault l above-check)
 
 pub codes-ruled : (l : List ℕ) → Ruled (codesLine l)
 unfolding codesLine
 codes-ruled l =
-    then-ruled (fields 2 l) _ (fields-ruled 2 l)
+    then-ruled (hasFields 2 l) _ (has-fields-ruled 2 l)
     (bind-ruled (codeAt 1 (readCode (fieldAt 1 l))) _ (code-ruled 1 (lit≤ tt) (readCode (fieldAt 1 l))) (λ m.
     bind-ruled (localAt 2 (readLocalCode (fieldAt 2 l))) _ (local-ruled 2 (lit≤ tt) (readLocalCode (fieldAt 2 l))) (λ n. tt)))
 
 pub quality-ruled : (l : List ℕ) → Ruled (qualityLine l)
 unfolding qualityLine
 quality-ruled l =
-    then-ruled (fields 2 l) _ (fields-ruled 2 l)
+    then-ruled (hasFields 2 l) _ (has-fields-ruled 2 l)
     (bind-ruled (value 1 readQuality l) _ (number-ruled 1 (lit≤ tt) (readQuality (fieldAt 1 l))) (λ q.
     bind-ruled (value 2 readLeap l) _ (number-ruled 2 (lit≤ tt) (readLeap (fieldAt 2 l))) (λ p. tt)))

@@ -23,7 +23,7 @@ use Rattle.codes.specs.Codes.{readCode, readLocalCode}
 use Rattle.model.specs.declared.Kind.{Kind}
 use Rattle.line_fields.specs.declared.Fault.{Fault}
 use Rattle.line_fields.specs.Faults.{textFault, yearFault, frequencyFault, aboveFault, rateFault}
-use Rattle.line_fields.specs.Checks.{fault, fields, fine, value}
+use Rattle.line_fields.specs.Checks.{fault, hasFields, faultless, value}
 
 -- What was read in field k: 5 for its form, 6 for a value that is not allowed
 -- a date
@@ -59,30 +59,30 @@ localAt k code.Form = refuses (fault 5 k)
 localAt k code.Range = refuses (fault 6 k)
 
 -- station, device, year
-unfoldable pub firstLine : List ℕ → Said Fault (Unit {0})
-firstLine l = do
-  fields 3 l
-  fine 1 (textFault 0 64) l
-  fine 2 (textFault 0 64) l
-  fine 3 yearFault l
+unfoldable pub stationLine : List ℕ → Said Fault (Unit {0})
+stationLine l = do
+  hasFields 3 l
+  faultless 1 (textFault 0 64) l
+  faultless 2 (textFault 0 64) l
+  faultless 3 yearFault l
 
 -- line frequency: empty or a real
 unfoldable pub frequencyLine : List ℕ → Said Fault (Unit {0})
 frequencyLine l = do
-  fields 1 l
-  fine 1 frequencyFault l
+  hasFields 1 l
+  faultless 1 frequencyFault l
 
 -- the number of rates
 unfoldable pub ratesLine : List ℕ → Said Fault ℕ
 ratesLine l = do
-  fields 1 l
+  hasFields 1 l
   value 1 (readCountIn 3 0 8) l
 
 -- a rate and its last row, which is above the one before and is said
 unfoldable pub rateLine : Bool → ℕ → List ℕ → Said Fault ℕ
 rateLine none before l = do
-  fields 2 l
-  fine 1 (rateFault none) l
+  hasFields 2 l
+  faultless 1 (rateFault none) l
   last ← value 2 (readCountIn 10 1 1000000) l
   must (ltb before last) (fault 7 2)
   says last
@@ -90,7 +90,7 @@ rateLine none before l = do
 -- a date and a time
 unfoldable pub dateLine : List ℕ → Said Fault (Date × Time)
 dateLine l = do
-  fields 2 l
+  hasFields 2 l
   d ← dateAt 1 (readDate (fieldAt 1 l))
   t ← timeAt 2 (readTime (fieldAt 2 l))
   says (d, t)
@@ -98,19 +98,19 @@ dateLine l = do
 -- the kind
 unfoldable pub kindLine : List ℕ → Said Fault Kind
 kindLine l = do
-  fields 1 l
+  hasFields 1 l
   kindAt 1 (readKind (fieldAt 1 l))
 
 -- the time multiplier: a real above zero
 unfoldable pub multiplierLine : List ℕ → Said Fault (Unit {0})
 multiplierLine l = do
-  fields 1 l
-  fine 1 aboveFault l
+  hasFields 1 l
+  faultless 1 aboveFault l
 
 -- the time code, whether the local code is x, and the local code
 unfoldable pub codesLine : List ℕ → Said Fault (ℤ × Bool × ℤ)
 codesLine l = do
-  fields 2 l
+  hasFields 2 l
   m ← codeAt 1 (readCode (fieldAt 1 l))
   (x, n) ← localAt 2 (readLocalCode (fieldAt 2 l))
   says (m, x, n)
@@ -118,7 +118,7 @@ codesLine l = do
 -- time quality and leap second code
 unfoldable pub qualityLine : List ℕ → Said Fault (ℕ × ℕ)
 qualityLine l = do
-  fields 2 l
+  hasFields 2 l
   q ← value 1 readQuality l
   p ← value 2 readLeap l
   says (q, p)

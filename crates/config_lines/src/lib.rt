@@ -16,8 +16,8 @@ use line_fields::value_of;
 use line_fields::year_fault;
 use model::Kind;
 ghost use mathlib.Core.Path.{_≡_};
-ghost use Rattle.line_fields.specs.Checks.{faultOf};
-ghost use Rattle.config_lines.specs.Lines.{firstLine, frequencyLine, ratesLine, rateLine, dateLine, kindLine, multiplierLine, codesLine, qualityLine};
+ghost use Rattle.line_fields.specs.Answers.{faultOf};
+ghost use Rattle.config_lines.specs.Lines.{stationLine, frequencyLine, ratesLine, rateLine, dateLine, kindLine, multiplierLine, codesLine, qualityLine};
 ghost use Rattle.config_lines.specs.Answers.{countedOf, noDate, noTime, datedOf, kindedOf, codedOf, qualityOf};
 ghost use Rattle.config_lines.specs.Inner.{withTime, withLocal};
 
@@ -51,8 +51,8 @@ pub struct Quality {
 }
 
 // Station, device, year.
-pub fn first_line(line: &[u8]) -> Fault
-    ensures { λ r. ⌜ r ≡ faultOf (firstLine (now (line .entry))) ⌝ }
+pub fn station_line(line: &[u8]) -> Fault
+    ensures { λ r. ⌜ r ≡ faultOf (stationLine (now (line .entry))) ⌝ }
 {
     if text::field_count(line) != 3 {
         return at(4, 0);

@@ -8,7 +8,8 @@ use Prim.Native.Nat.{ℕ, zero, suc, _-_, _≤_}
 use native.Mathlib.Omega.{arith}
 use lib.ListN.{length, set}
 use Rattle.ground.proofs.Cases.{on-test}
-use Rattle.channel_lines.specs.Channels.{channelsLine, channelsOf}
+use Rattle.channel_lines.specs.Channels.{channelsLine}
+use Rattle.channel_lines.specs.Answers.{channelsOf}
 use Rattle.config_lines.proofs.Laws.{date-valid}
 use Rattle.config_rules.specs.declared.Config.{Config}
 use Rattle.config_rules.specs.declared.Rule.{Rule}

@@ -10,9 +10,11 @@ use lib.ListN.{set}
 use Rattle.ground.specs.Choice.{if_then_else_}
 use Rattle.line_fields.specs.declared.Fault.{Fault}
 use Rattle.config_lines.specs.declared.Dated.{Dated}
-use Rattle.line_fields.specs.Checks.{fault, faultOf}
-use Rattle.channel_lines.specs.Channels.{channelsLine, analogLine, statusLine, channelsOf}
-use Rattle.config_lines.specs.Lines.{firstLine, frequencyLine, ratesLine, rateLine, dateLine, kindLine, multiplierLine, codesLine, qualityLine}
+use Rattle.line_fields.specs.Checks.{fault}
+use Rattle.line_fields.specs.Answers.{faultOf}
+use Rattle.channel_lines.specs.Channels.{channelsLine, analogLine, statusLine}
+use Rattle.channel_lines.specs.Answers.{channelsOf}
+use Rattle.config_lines.specs.Lines.{stationLine, frequencyLine, ratesLine, rateLine, dateLine, kindLine, multiplierLine, codesLine, qualityLine}
 use Rattle.config_lines.specs.Answers.{countedOf, datedOf, kindedOf, codedOf, qualityOf}
 use Rattle.clock.specs.declared.Span.{Span}
 use Rattle.clock.specs.Dates.{validDate}
@@ -173,7 +175,7 @@ taken fault rule config = record { fault = fault; rule = rule; config = config }
 
 -- a line by its rule
 unfoldable pub takeLine : Rule → Config → List ℕ → Taken
-takeLine Station c l = taken (faultOf (firstLine l)) Counts c
+takeLine Station c l = taken (faultOf (stationLine l)) Counts c
 takeLine Counts c l =
     let k = channelsOf (channelsLine l) in
     taken (k .fault) (afterAnalog 0 (k .analogs) (k .statuses)) (withCounts (k .analogs) (k .statuses) c)
@@ -189,10 +191,6 @@ takeLine Multiplier c l = taken (faultOf (multiplierLine l)) Codes c
 takeLine Codes c l = let k = codedOf (codesLine l) in taken (k .fault) Quality (withCodes (k .code) (k .x) (k .local) c)
 takeLine Quality c l = let k = qualityOf (qualityLine l) in taken (k .fault) Done (withQuality (k .quality) (k .leap) c)
 takeLine Done c l = taken (fault 0 0) Done c
-
--- a date line that is fine has a date and a time of the calendar
-abbrev pub Fine : Dated → Type 0
-Fine d = d .fault .number ≡ 0 → (validDate (d .date) ≡ true) × (validTime (d .time) ≡ true)
 
 -- the trigger's line comes after a first sample of the calendar
 unfoldable pub Ready : Rule → Config → Type 0

@@ -9,7 +9,8 @@ use model::Kind;
 use model::Layout;
 ghost use mathlib.Core.Path.{_≡_};
 ghost use mathlib.Core.Bool.{true};
-ghost use Rattle.config_rules.specs.Inner.{afterAnalog, afterStatus, afterRate, withLast, withKind, takeLine, spanTo, Fine, Ready};
+ghost use Rattle.config_rules.specs.Inner.{afterAnalog, afterStatus, afterRate, withLast, withKind, takeLine, spanTo, Ready};
+ghost use Rattle.config_lines.specs.Inner.{Calendar};
 ghost use Rattle.clock.specs.Dates.{validDate};
 ghost use Rattle.clock.specs.Times.{validTime};
 
@@ -183,7 +184,7 @@ fn take_first(line: &[u8], c: Config) -> Taken
 // Trigger minus first sample, where there is a trigger.
 fn span_to(first: Moment, k: Dated) -> Span
     requires { ⌜ (validDate (first .date) ≡ true) × (validTime (first .time) ≡ true) ⌝ }
-    requires { ⌜ Fine k ⌝ }
+    requires { ⌜ Calendar k ⌝ }
     ensures { λ r. ⌜ r ≡ spanTo first k ⌝ }
 {
     let fault = k.fault;
@@ -262,7 +263,7 @@ pub fn take_line(line: &[u8], rule: Rule, c: Config) -> Taken
     ensures { λ r. ⌜ r ≡ takeLine rule c (now (line .entry)) ⌝ }
 {
     match rule {
-        Rule::Station => judged(config_lines::first_line(line), Rule::Counts, c),
+        Rule::Station => judged(config_lines::station_line(line), Rule::Counts, c),
         Rule::Counts => take_counts(line, c),
         Rule::Analog(i) => judged(
             channel_lines::analog_line(line, i as u64),

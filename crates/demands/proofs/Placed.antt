@@ -22,10 +22,10 @@ use Rattle.numerals.specs.declared.Count.the-variants as count
 use Rattle.numerals.specs.Counts.{readCount}
 use Rattle.line_fields.specs.declared.Fault.{Fault}
 use Rattle.channel_lines.specs.Channels.{channelsLine, analogLine, statusLine}
-use Rattle.config_lines.specs.Lines.{firstLine, frequencyLine, ratesLine, rateLine, dateLine, kindLine, multiplierLine, codesLine, qualityLine}
+use Rattle.config_lines.specs.Lines.{stationLine, frequencyLine, ratesLine, rateLine, dateLine, kindLine, multiplierLine, codesLine, qualityLine}
 use Rattle.line_fields.proofs.PlaceLaws.{FaultPlaced, whole, form, range, agreement, year, Ruled}
 use Rattle.channel_lines.proofs.PlaceLaws.{channels-ruled, analog-ruled, status-ruled}
-use Rattle.config_lines.proofs.PlaceLaws.{first-ruled, frequency-ruled, rates-ruled, rate-ruled, date-line-ruled, kind-line-ruled, multiplier-ruled, codes-ruled, quality-ruled}
+use Rattle.config_lines.proofs.PlaceLaws.{station-ruled, frequency-ruled, rates-ruled, rate-ruled, date-line-ruled, kind-line-ruled, multiplier-ruled, codes-ruled, quality-ruled}
 use Rattle.model.specs.declared.Kind.{Kind}
 use Rattle.model.specs.declared.Kind.the-variants.{Ascii, Binary, Binary32}
 use Rattle.model.specs.declared.Layout.{Layout}
@@ -251,7 +251,7 @@ all-read : (p : Place) → 1 ≤ p .0 → Read (configuration p)
 unfolding configuration
 all-read p h =
     read-bind (size p) _ (read-holds (leb (length (p .1)) 65536) (refused 1 0 0) p h (configuration-size, lit≤ tt)) (λ z hz.
-    read-bind (line firstLine (z .1)) _ (read-line firstLine first-ruled (z .1) hz) (λ a ha.
+    read-bind (line stationLine (z .1)) _ (read-line stationLine station-ruled (z .1) hz) (λ a ha.
     read-bind (line channelsLine (a .1)) _ (read-line channelsLine channels-ruled (a .1) ha) (λ b hb.
     read-bind (times (b .0 .0) 1 (λ i. line (analogLine i)) (b .1)) _ (read-times analogLine analog-ruled (b .0 .0) 1 (b .1) hb) (λ c hc.
     read-bind (times (b .0 .1) 1 (λ i. line (statusLine i)) (c .1)) _ (read-times statusLine status-ruled (b .0 .1) 1 (c .1) hc) (λ d hd.

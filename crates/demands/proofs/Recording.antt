@@ -26,7 +26,7 @@ use Rattle.clock.specs.Spans.{secondNumber, spanOf, preTrigger}
 use Rattle.codes.specs.Codes.{signedMinutes, minutesOf, hoursAndMinutes, hoursOf, smallX, codeOf, codeIn, readCode, readLocalCode}
 use Rattle.line_fields.specs.Faults.{textFault, yearFault, indexFault, realFault, frequencyFault, aboveFault}
 use Rattle.channel_lines.specs.Channels.{channelsLine, names, scale, limits, analogLine, statusLine}
-use Rattle.config_lines.specs.Lines.{firstLine, frequencyLine, ratesLine, rateLine, dateLine, kindLine, multiplierLine, codesLine, qualityLine}
+use Rattle.config_lines.specs.Lines.{stationLine, frequencyLine, ratesLine, rateLine, dateLine, kindLine, multiplierLine, codesLine, qualityLine}
 use Rattle.model.specs.declared.Kind.the-variants.{Ascii}
 use Rattle.model.specs.declared.Answer.the-variants.{Yes, No}
 use Rattle.model.specs.Refusals.{refused}
@@ -67,7 +67,7 @@ computed :
     × (readConfig (recordingWith "29/02/1900" "0,0") ≡ record { answer = No (refused 6 8 1); config = noConfig })
     × (readConfig (recordingWith "03/02/2024" "-0h30,0") .config .code ≡ negℤ (pos 30))
 unfolding readConfig configuration scanLine scanLastLine fieldCount afterFields fieldAt lengthIn isDigit numberOf readCount signLength hasMinus
-    firstLine channelsLine names scale limits analogLine statusLine frequencyLine ratesLine rateLine dateLine kindLine multiplierLine codesLine qualityLine
+    stationLine channelsLine names scale limits analogLine statusLine frequencyLine ratesLine rateLine dateLine kindLine multiplierLine codesLine qualityLine
     textFault yearFault indexFault realFault frequencyFault aboveFault inRange readCountIn readLettered readYear readOneOf digitValue readDigitOf readState readSide readQuality readLeap small readKind
     leadingDigits fractionLength mantissaLength isE shortNumber raisedBy signedExponent exponentOf realForm isNought isZero signOf realSign signedReal readReal
     digitsOf placesOf exactOf scaled sizeLe within inBound limitOf signedLimit readLimit maxBelow

@@ -21,7 +21,8 @@ use Rattle.clock.specs.declared.Span.{Span}
 use Rattle.clock.specs.Dates as clock
 use Rattle.clock.specs.Dates.{validDate, daysOfMonths}
 use Rattle.clock.specs.Times.{validTime, secondOfDay}
-use Rattle.clock.specs.Spans.{secondNumber, preTrigger, inNanoseconds}
+use Rattle.clock.specs.Spans.{secondNumber, preTrigger}
+use Rattle.clock.specs.Inner.{inNanoseconds}
 use Rattle.clock.proofs.DateLaws.{date-bounds, years-next}
 use Rattle.clock.proofs.SpanLaws.{pre-exact, pre-below}
 use Rattle.config_rules.specs.declared.Moment.{Moment}

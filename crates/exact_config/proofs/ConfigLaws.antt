@@ -1,5 +1,5 @@
 -- The readers of a configuration, exactly: what each takes from the bytes, and what it says of them.
---     Reads                         a reader says a of the bytes s and leaves u exactly where R a s u
+--     ReadsLines                         a reader says a of the bytes s and leaves u exactly where R a s u
 --     reads-as                      the same in other words
 --     said-parts, in-line-told      what is said, and the place after it
 --     done-reads, holds-reads       what takes nothing
@@ -39,10 +39,10 @@ use Rattle.exact_config.proofs.LineLaws.{rate-line-exactly}
 abbrev pub Told : Type 0 → Type 1
 Told A = A → List ℕ → List ℕ → Type 0
 
-pub record Reads {A : Type 0} (r : Reader A) (R : Told A) : Type 0 where
+pub record ReadsLines {A : Type 0} (r : Reader A) (R : Told A) : Type 0 where
   pub exactly : (n : ℕ) (s : List ℕ) (a : A) (u : List ℕ) → ((k : ℕ) × (r (n, s) ≡ says (a, (k, u)))) ↔ R a s u
 
-pub reads-as : {A : Type 0} {r : Reader A} {R S : Told A} → Reads r R → ((a : A) (s u : List ℕ) → R a s u ↔ S a s u) → Reads r S
+pub reads-as : {A : Type 0} {r : Reader A} {R S : Told A} → ReadsLines r R → ((a : A) (s u : List ℕ) → R a s u ↔ S a s u) → ReadsLines r S
 reads-as h same =
     record { exactly = λ n s a u. (λ e. same a s u .0 (h .exactly n s a u .0 e), λ g. h .exactly n s a u .1 (same a s u .1 g)) }
 
@@ -52,7 +52,7 @@ said-parts {A} a b p q e =
     let w : _≡_ {A = A × Place} (a, p) (b, q) = cc in
     (ap (λ (z : A × Place). z .0) w, ap (λ (z : A × Place). z .1) w)
 
-pub done-reads : {A : Type 0} (c : A) → Reads (done c) (λ a s u. (c ≡ a) × (s ≡ u))
+pub done-reads : {A : Type 0} (c : A) → ReadsLines (done c) (λ a s u. (c ≡ a) × (s ≡ u))
 done-reads c =
     record {
       exactly = λ n s a u. (
@@ -61,8 +61,8 @@ done-reads c =
       );
     }
 
-pub bind-reads : {A B : Type 0} {r : Reader A} {R : Told A} {next : A → Reader B} {S : A → Told B} → Reads r R → ((a : A) → Reads (next a) (S a))
-    → Reads (paper._>>=_ r next) (λ b s u. (a : A) × (t : List ℕ) × R a s t × S a b t u)
+pub bind-reads : {A B : Type 0} {r : Reader A} {R : Told A} {next : A → Reader B} {S : A → Told B} → ReadsLines r R → ((a : A) → ReadsLines (next a) (S a))
+    → ReadsLines (paper._>>=_ r next) (λ b s u. (a : A) × (t : List ℕ) × R a s t × S a b t u)
 bind-reads {A} {B} {r} {R} {next} {S} h g =
     record {
       exactly = λ n s b u. (
@@ -74,7 +74,7 @@ bind-reads {A} {B} {r} {R} {next} {S} h g =
       );
     }
 
-pub holds-reads : (test : List ℕ → Bool) (refusal : ℕ → Refusal) → Reads (λ p. holds (test (p .1)) (refusal (p .0)) p) (λ x s u. (test s ≡ true) × (s ≡ u))
+pub holds-reads : (test : List ℕ → Bool) (refusal : ℕ → Refusal) → ReadsLines (λ p. holds (test (p .1)) (refusal (p .0)) p) (λ x s u. (test s ≡ true) × (s ≡ u))
 holds-reads test refusal =
     record {
       exactly = λ n s x u. (
@@ -145,7 +145,7 @@ module _ {A : Type 0} (rule : List ℕ → Said Fault A) (P : A → List ℕ →
       → scanned rule (n, s) f ≡ says (a, (n + 1, u))
   scanned-says n s a l u t f e q r p = rw (e, q, r, exactly a l .1 p)
 
-  pub line-reads : Reads (line rule) (λ a s u. (l : List ℕ) × (s ≡ ended l ++ u) × Line (P a) l)
+  pub line-reads : ReadsLines (line rule) (λ a s u. (l : List ℕ) × (s ≡ ended l ++ u) × Line (P a) l)
   line-reads =
       record {
         exactly = λ n s a u. (
@@ -167,7 +167,7 @@ module _ {A : Type 0} (rule : List ℕ → Said Fault A) (P : A → List ℕ →
           scanned-says n s a l u (length l + 2) (scanLine (length s) s) (line-scanned (length s) l u (g .bytes) m) (take-append-seam l (13 ∷ 10 ∷ u)) (drop-append-add l (13 ∷ 10 ∷ u) 2) (g .is)
 
   pub last-reads : ((a : A) (l : List ℕ) → P a l → 1 ≤ length l)
-      → Reads (lastLine rule) (λ a s u. (l : List ℕ) × (e : List ℕ) × (s ≡ l ++ (e ++ u)) × Line (P a) l × LastEnd e u)
+      → ReadsLines (lastLine rule) (λ a s u. (l : List ℕ) × (e : List ℕ) × (s ≡ l ++ (e ++ u)) × Line (P a) l × LastEnd e u)
   last-reads some =
       record {
         exactly = λ n s a u. (
@@ -187,7 +187,7 @@ module _ {A : Type 0} (rule : List ℕ → Said Fault A) (P : A → List ℕ →
 
 -- so many lines that say nothing
 pub times-reads : (rule : ℕ → List ℕ → Said Fault (Unit {0})) (P : ℕ → List ℕ → Type 0) → ((i : ℕ) (l : List ℕ) → rule i l ≡ says tt ↔ P i l) → (m i : ℕ)
-    → Reads (times m i (λ i. line (rule i))) (λ x s u. (t : List ℕ) × (s ≡ t ++ u) × Lines P i m t)
+    → ReadsLines (times m i (λ i. line (rule i))) (λ x s u. (t : List ℕ) × (s ≡ t ++ u) × Lines P i m t)
 times-reads rule P exactly zero i = reads-as (done-reads tt) (λ x s u. (λ (q, e). ([], e, refl), λ (t, q, e). (refl, q ∙ rw e)))
 times-reads rule P exactly (suc m) i =
     reads-as
@@ -213,7 +213,7 @@ rates-some n m before (last ∷ others) t u s q k (l, w, e, g, h) =
     (last, w ++ u, (l, q ∙ ap (λ (z : List ℕ). z ++ u) e ∙ append-assoc (ended l) w u, g), (others, u, (w, refl, omega arith, h), (refl, refl)))
 
 -- the lines of n rates
-pub lasts-reads : (n m before : ℕ) → Reads (lastRows (eqb n 0) m before) (λ lasts s u. (t : List ℕ) × (s ≡ t ++ u) × (length lasts ≡ m) × RateLines (rateSign n) before lasts t)
+pub lasts-reads : (n m before : ℕ) → ReadsLines (lastRows (eqb n 0) m before) (λ lasts s u. (t : List ℕ) × (s ≡ t ++ u) × (length lasts ≡ m) × RateLines (rateSign n) before lasts t)
 lasts-reads n zero before = reads-as (done-reads []) (λ lasts s u. (λ (q, e). ([], e, rw (← q), rw (← q)), λ (t, q, k, h). rates-none n before lasts t u s q k h))
 lasts-reads n (suc m) before =
     reads-as

@@ -28,7 +28,7 @@ use Rattle.clock.specs.declared.Time.{Time}
 use Rattle.clock.specs.declared.Span.{Span}
 use Rattle.clock.specs.Spans.{preTrigger}
 use Rattle.channel_lines.specs.Channels.{channelsLine, analogLine, statusLine}
-use Rattle.config_lines.specs.Lines.{firstLine, frequencyLine, ratesLine, dateLine, kindLine, multiplierLine, codesLine, qualityLine}
+use Rattle.config_lines.specs.Lines.{stationLine, frequencyLine, ratesLine, dateLine, kindLine, multiplierLine, codesLine, qualityLine}
 use Rattle.model.specs.declared.Kind.{Kind}
 use Rattle.model.specs.declared.Refusal.{Refusal}
 use Rattle.model.specs.declared.Answer.the-variants.{Yes, No}
@@ -130,7 +130,7 @@ unfolding configuration
 config-reads s c =
     let reads =
     bind-reads (holds-reads (λ s. leb (length s) 65536) (λ n. refused 1 0 0)) (λ z0.
-    bind-reads (line-reads firstLine (λ z. StationLine) (λ z. station-line-exactly)) (λ z1.
+    bind-reads (line-reads stationLine (λ z. StationLine) (λ z. station-line-exactly)) (λ z1.
     bind-reads (line-reads channelsLine (λ v. ChannelsLine (v .0) (v .1)) (λ v. channels-line-exactly (v .0) (v .1))) (λ v2.
     bind-reads (times-reads analogLine AnalogLine analog-line-exactly (v2 .0) 1) (λ z3.
     bind-reads (times-reads statusLine StatusLine status-line-exactly (v2 .1) 1) (λ z4.

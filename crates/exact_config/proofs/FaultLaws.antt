@@ -28,7 +28,7 @@ use Rattle.fields.specs.Fields.{readYear, readState, readSide}
 use Rattle.reals.specs.declared.Real.{Real}
 use Rattle.reals.specs.declared.Real.the-variants as real
 use Rattle.reals.specs.Forms.{readReal}
-use Rattle.line_fields.specs.Faults.{valueOf, textFault, yearIs, yearFault, indexIs, indexFault, anyReal, realFault, frequencyFault, aboveZero, aboveFault, isZero, zeroFault, rateFault, sideFault, stateFault}
+use Rattle.line_fields.specs.Faults.{valueOf, textFault, yearIs, yearFault, indexIs, indexFault, anyReal, realFault, frequencyFault, aboveZero, aboveFault, atZero, zeroFault, rateFault, sideFault, stateFault}
 use Rattle.paper.specs.Fields.{TextField, CountField, RealField, AnyReal}
 use Rattle.paper.specs.Lines.{rateSign}
 use Rattle.exact.proofs.CountLaws.{count-exactly}
@@ -109,7 +109,7 @@ pub above-fine : (f : List ℕ) → aboveFault f ≡ 0 ↔ RealField real.Above 
 unfolding aboveFault
 above-fine f = real-told aboveZero real.Above above-is refl (λ q. clash (cc)) f
 
-zero-is : (r : Real) → isZero r ≡ 0 → r ≡ real.Zero
+zero-is : (r : Real) → atZero r ≡ 0 → r ≡ real.Zero
 zero-is real.Below e = absurd (suc-ne-zero 5 e)
 zero-is real.Zero e = refl
 zero-is real.Above e = absurd (suc-ne-zero 5 e)
@@ -117,7 +117,7 @@ zero-is real.Form e = absurd (suc-ne-zero 4 e)
 
 pub rate-fine : (n : ℕ) (f : List ℕ) → rateFault (eqb n 0) f ≡ 0 ↔ RealField (rateSign n) f
 unfolding zeroFault
-rate-fine zero f = real-told isZero real.Zero zero-is refl (λ q. clash (cc)) f
+rate-fine zero f = real-told atZero real.Zero zero-is refl (λ q. clash (cc)) f
 rate-fine (suc n) f = rw (ne-eqb (suc n) 0 (λ e. omega arith)) (above-fine f)
 
 -- a field that has any value

@@ -24,7 +24,7 @@ use Rattle.text.specs.declared.Scanned.the-variants as scan
 use Rattle.text.specs.Lines.{scanLine, scanLastLine}
 use Rattle.line_fields.specs.declared.Fault.{Fault}
 use Rattle.channel_lines.specs.Channels.{channelsLine, analogLine, statusLine}
-use Rattle.config_lines.specs.Lines.{firstLine, frequencyLine, ratesLine, rateLine, dateLine, kindLine, multiplierLine, codesLine, qualityLine}
+use Rattle.config_lines.specs.Lines.{stationLine, frequencyLine, ratesLine, rateLine, dateLine, kindLine, multiplierLine, codesLine, qualityLine}
 use Rattle.model.specs.declared.Refusal.{Refusal}
 use Rattle.model.specs.declared.Answer.the-variants.{Yes, No}
 use Rattle.model.specs.Refusals.{refused}
@@ -228,7 +228,7 @@ config-stops : Stops configuration station
 unfolding configuration
 config-stops =
     bind-stops (holds-walks (λ s. leb (length s) 65536) (λ n. refused 1 0 0) station (λ n o. absurd (omega arith))) (λ z0.
-    bind-stops (line-walks firstLine (λ z. StationLine) (λ z. station-line-exactly) station (λ l z r. (tt, r .0)) (λ z. channels) (λ z l g. (g, refl)) (λ q. clash (cc))) (λ z1.
+    bind-stops (line-walks stationLine (λ z. StationLine) (λ z. station-line-exactly) station (λ l z r. (tt, r .0)) (λ z. channels) (λ z l g. (g, refl)) (λ q. clash (cc))) (λ z1.
     bind-stops (line-walks channelsLine (λ v. ChannelsLine (v .0) (v .1)) (λ v. channels-line-exactly (v .0) (v .1)) channels (λ l z r. ((r .0, r .1), r .2)) (λ v. analogDue 1 (v .0) (v .1)) (λ v l g. (v .0, v .1, g, refl)) (λ q. clash (cc))) (λ v2.
     bind-stops (times-walks analogLine AnalogLine analog-line-exactly (λ i m. analogDue i m (v2 .1)) (statusDue 1 (v2 .1)) (λ i. refl) (λ i m l g. (g, refl)) (λ i m l z r. r .0) (λ i m q. clash (cc)) (v2 .0) 1) (λ z3.
     bind-stops (times-walks statusLine StatusLine status-line-exactly statusDue frequency (λ i. refl) (λ i m l g. (g, refl)) (λ i m l z r. r .0) (λ i m q. clash (cc)) (v2 .1) 1) (λ z4.

@@ -42,9 +42,9 @@ use Rattle.clock.specs.Times.{readTime}
 use Rattle.codes.specs.Codes.{codeIn, readCode, readLocalCode}
 use Rattle.line_fields.specs.declared.Fault.{Fault}
 use Rattle.line_fields.specs.Faults.{textFault, yearFault, indexFault, realFault, frequencyFault, aboveFault, rateFault, sideFault, stateFault}
-use Rattle.line_fields.specs.Checks.{fault, fields, fine, numberAt, value}
+use Rattle.line_fields.specs.Checks.{fault, hasFields, faultless, numberAt, value}
 use Rattle.channel_lines.specs.Channels.{limitAt, channelsLine, names, scale, limits, analogLine, statusLine}
-use Rattle.config_lines.specs.Lines.{dateAt, timeAt, kindAt, codeAt, localAt, firstLine, frequencyLine, ratesLine, rateLine, dateLine, kindLine, multiplierLine, codesLine, qualityLine}
+use Rattle.config_lines.specs.Lines.{dateAt, timeAt, kindAt, codeAt, localAt, stationLine, frequencyLine, ratesLine, rateLine, dateLine, kindLine, multiplierLine, codesLine, qualityLine}
 use Rattle.line_fields.proofs.ValueLaws.{number-told}
 use Rattle.config_lines.proofs.Laws.{date-told, time-told}
 use Rattle.model.specs.declared.Kind.{Kind}
@@ -90,11 +90,11 @@ bind-says {R} {A} {B} {x} {f} h g =
     }
 
 -- 4: so many fields
-pub count-says : (n : ℕ) (l : List ℕ) → Says (fields n l) (λ u. fieldCount l ≡ n)
+pub count-says : (n : ℕ) (l : List ℕ) → Says (hasFields n l) (λ u. fieldCount l ≡ n)
 count-says n l = must-says (eqb (fieldCount l) n) (fault 4 0) (eqb-true (fieldCount l) n, eq-eqb (fieldCount l) n)
 
 -- a field that passes its check
-pub fine-says : (k : ℕ) (check : List ℕ → ℕ) (l : List ℕ) {P : Type 0} → check (fieldAt k l) ≡ 0 ↔ P → Says (fine k check l) (λ u. P)
+pub fine-says : (k : ℕ) (check : List ℕ → ℕ) (l : List ℕ) {P : Type 0} → check (fieldAt k l) ≡ 0 ↔ P → Says (faultless k check l) (λ u. P)
 fine-says k check l h = must-says (eqb (check (fieldAt k l)) 0) (fault (check (fieldAt k l)) k) (λ e. h .0 (eqb-true (check (fieldAt k l)) 0 e), λ p. eq-eqb (check (fieldAt k l)) 0 (h .1 p))
 
 -- a value that was read
@@ -111,8 +111,8 @@ fields-here n f l h w =
     let (c, e) = fields-exactly n f l (leb-true 1 n (and-split (leb 1 n) (leb n n) h .0)) .0 w in
     (c, λ i t. let (a, b) = and-split (leb 1 i) (leb i n) t in e i (leb-true 1 i a) (leb-true i n b))
 
-pub station-line-exactly : (l : List ℕ) → firstLine l ≡ says tt ↔ StationLine l
-unfolding firstLine
+pub station-line-exactly : (l : List ℕ) → stationLine l ≡ says tt ↔ StationLine l
+unfolding stationLine
 station-line-exactly l =
     let w =
     then-says (count-says 3 l)
@@ -242,7 +242,7 @@ status-line-exactly i l =
 
 -- a line of one field
 module _ {A : Type 0} {x : Said Fault A} (P : A → List ℕ → Type 0) (l : List ℕ) (h : Says x (λ a. P a (fieldAt 1 l))) where
-  pub one-field : (a : A) → (fields 1 l >> x) ≡ says a ↔ ((f : ℕ → List ℕ) × Fields 1 f l × P a (f 1))
+  pub one-field : (a : A) → (hasFields 1 l >> x) ≡ says a ↔ ((f : ℕ → List ℕ) × Fields 1 f l × P a (f 1))
   one-field a =
       let w = then-says (count-says 1 l) h in (
         λ e. let (c, p) = w .exactly a .0 e in (λ i. fieldAt i l, fields-of 1 l (omega arith) c, p),

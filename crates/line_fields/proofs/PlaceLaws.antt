@@ -3,7 +3,7 @@
 --     FaultPlaced                       4 for the whole line, 5 to 8 at a field, counted from 1
 --     text-check, year-check, index-check, real-check, frequency-check, above-check, zero-check, rate-check, value-check     each check has such a number
 --     Ruled                             a rule that refuses only so
---     fields-ruled, fine-ruled, agrees-ruled, number-ruled     the checks that a line is made of
+--     has-fields-ruled, faultless-ruled, agrees-ruled, number-ruled     the checks that a line is made of
 --     then-ruled, bind-ruled            and what is made of two of them
 --     fault-numbered                    a refusal has a number: 0 stands for a line that is fine
 --     part-is                           so a part of a line is the test of its fault's number
@@ -30,8 +30,9 @@ use Rattle.reals.specs.declared.Real.{Real}
 use Rattle.reals.specs.declared.Real.the-variants as real
 use Rattle.reals.specs.Forms.{readReal}
 use Rattle.line_fields.specs.declared.Fault.{Fault}
-use Rattle.line_fields.specs.Faults.{valueOf, textFault, yearIs, yearFault, indexIs, indexFault, anyReal, realFault, frequencyFault, aboveZero, aboveFault, isZero, zeroFault, rateFault}
-use Rattle.line_fields.specs.Checks.{fault, fields, fine, numberAt, faultOf}
+use Rattle.line_fields.specs.Faults.{valueOf, textFault, yearIs, yearFault, indexIs, indexFault, anyReal, realFault, frequencyFault, aboveZero, aboveFault, atZero, zeroFault, rateFault}
+use Rattle.line_fields.specs.Checks.{fault, hasFields, faultless, numberAt}
+use Rattle.line_fields.specs.Answers.{faultOf}
 
 -- a field's number: 0 where it is fine
 pub data FieldNumber : ℕ → Type 0 where
@@ -98,7 +99,7 @@ pub zero-check : (f : List ℕ) → FieldNumber (zeroFault f)
 unfolding zeroFault
 zero-check f = go (readReal 1 32 f)
   where
-    go : (v : Real) → FieldNumber (isZero v)
+    go : (v : Real) → FieldNumber (atZero v)
     go real.Below = of-range
     go real.Zero = fine-field
     go real.Above = of-range
@@ -117,8 +118,8 @@ value-check field.Range = of-range
 abbrev pub Ruled : {A : Type 0} → Said Fault A → Type 0
 Ruled x = RefusesOnly FaultPlaced x
 
-pub fields-ruled : (n : ℕ) (l : List ℕ) → Ruled (fields n l)
-fields-ruled n l = only-must FaultPlaced (eqb (fieldCount l) n) (fault 4 0) (λ e. whole)
+pub has-fields-ruled : (n : ℕ) (l : List ℕ) → Ruled (hasFields n l)
+has-fields-ruled n l = only-must FaultPlaced (eqb (fieldCount l) n) (fault 4 0) (λ e. whole)
 
 -- one after another
 pub then-ruled : {B : Type 0} (x : Said Fault (Unit {0})) (y : Said Fault B) → Ruled x → Ruled y → Ruled (x >> y)
@@ -129,8 +130,8 @@ bind-ruled x f p q = only-bind FaultPlaced x f p (λ a e. q a)
 
 -- field k, from the first on
 module _ (k : ℕ) (h : 1 ≤ k) where
-  pub fine-ruled : (check : List ℕ → ℕ) (l : List ℕ) → ((f : List ℕ) → FieldNumber (check f)) → Ruled (fine k check l)
-  fine-ruled check l c = go (c (fieldAt k l))
+  pub faultless-ruled : (check : List ℕ → ℕ) (l : List ℕ) → ((f : List ℕ) → FieldNumber (check f)) → Ruled (faultless k check l)
+  faultless-ruled check l c = go (c (fieldAt k l))
     where
       go : {v : ℕ} → FieldNumber v → Ruled (must (eqb v 0) (fault v k))
       go fine-field = tt

@@ -13,12 +13,12 @@ abbrev pub fault : ℕ → ℕ → Fault
 fault n k = record { number = n; field = k }
 
 -- 4: a line has so many fields
-abbrev pub fields : ℕ → List ℕ → Said Fault (Unit {0})
-fields n l = must (eqb (fieldCount l) n) (fault 4 0)
+abbrev pub hasFields : ℕ → List ℕ → Said Fault (Unit {0})
+hasFields n l = must (eqb (fieldCount l) n) (fault 4 0)
 
 -- field k passes its check, or has the check's number
-abbrev pub fine : ℕ → (List ℕ → ℕ) → List ℕ → Said Fault (Unit {0})
-fine k check l = must (eqb (check (fieldAt k l)) 0) (fault (check (fieldAt k l)) k)
+abbrev pub faultless : ℕ → (List ℕ → ℕ) → List ℕ → Said Fault (Unit {0})
+faultless k check l = must (eqb (check (fieldAt k l)) 0) (fault (check (fieldAt k l)) k)
 
 -- what was read in field k as a number: 5 for its form, 6 for a value that is not allowed
 abbrev pub numberAt : ℕ → Field → Said Fault ℕ
@@ -29,8 +29,3 @@ numberAt k Range = refuses (fault 6 k)
 -- field k has a number
 abbrev pub value : ℕ → (List ℕ → Field) → List ℕ → Said Fault ℕ
 value k read l = numberAt k (read (fieldAt k l))
-
--- a line's fault, zeros for none
-abbrev pub faultOf : {A : Type 0} → Said Fault A → Fault
-faultOf (says a) = fault 0 0
-faultOf (refuses f) = f

@@ -71,15 +71,15 @@ unfoldable pub aboveFault : List ℕ → ℕ
 aboveFault l = aboveZero (readReal 1 32 l)
 
 -- a real must be zero
-abbrev pub isZero : Real → ℕ
-isZero real.Below = 6
-isZero real.Zero = 0
-isZero real.Above = 6
-isZero real.Form = 5
+abbrev pub atZero : Real → ℕ
+atZero real.Below = 6
+atZero real.Zero = 0
+atZero real.Above = 6
+atZero real.Form = 5
 
 -- a real of 1 to 32 characters, which is zero
 unfoldable pub zeroFault : List ℕ → ℕ
-zeroFault l = isZero (readReal 1 32 l)
+zeroFault l = atZero (readReal 1 32 l)
 
 -- a rate: zero where there are no rates, and else above zero
 abbrev pub rateFault : Bool → List ℕ → ℕ

@@ -7,8 +7,8 @@ use Rattle.config_rules.proofs.take_line.Tie as tie
 enum-told : tie.Need-enum-told
 enum-told c = search needs
 
-first-line-requires : tie.Need-first-line-requires
-first-line-requires c κs = search needs
+station-line-requires : tie.Need-station-line-requires
+station-line-requires c κs = search needs
 
 judged-requires : tie.Need-judged-requires
 judged-requires c κs = search needs
@@ -117,7 +117,7 @@ judged-requires-6 c κs = search needs
 
 returns : tie.Need-returns
 unfolding takeLine
-returns c = rw (c .judged .ensures, c .before .first-line .ensures, c .before .before .enum-told .given .1)
+returns c = rw (c .judged .ensures, c .before .station-line .ensures, c .before .before .enum-told .given .1)
 
 returns-2 : tie.Need-returns-2
 returns-2 c = rw (c .take-counts .ensures, c .before .enum-told2 .given .1)
@@ -168,7 +168,7 @@ take-line-spec =
     tie.close
     (tie.spec
     enum-told
-    first-line-requires
+    station-line-requires
     judged-requires
     enum-told-2
     take-counts-requires

@@ -1,9 +1,9 @@
--- `first_line` meets its contract: each return follows from the checks before it.
+-- `station_line` meets its contract: each return follows from the checks before it.
 use borrow.Author.Tests.{eq-eqb, ne-eqb}
-use Rattle.config_lines.specs.Lines.{firstLine}
+use Rattle.config_lines.specs.Lines.{stationLine}
 use borrow.Author.Needs.{needs}
-use Rattle.config_lines.proofs.first_line.Statement.{statement}
-use Rattle.config_lines.proofs.first_line.Tie as tie
+use Rattle.config_lines.proofs.station_line.Statement.{statement}
+use Rattle.config_lines.proofs.station_line.Tie as tie
 
 field-count-requires : tie.Need-field-count-requires
 field-count-requires c κs = search needs
@@ -12,7 +12,7 @@ at-requires : tie.Need-at-requires
 at-requires c κs = search needs
 
 returns : tie.Need-returns
-unfolding firstLine
+unfolding stationLine
 returns c = rw (c .at .ensures, ← c .before .before .field-count .ensures, ne-eqb _ 3 (c .before .if1 .taken))
 
 field-at-requires : tie.Need-field-at-requires
@@ -25,7 +25,7 @@ at-requires-2 : tie.Need-at-requires-2
 at-requires-2 c κs = search needs
 
 returns-2 : tie.Need-returns-2
-unfolding firstLine
+unfolding stationLine
 returns-2 c = rw (c .at2 .ensures, ← c .before .before .before .before .before .field-count .ensures, eq-eqb _ 3 (c .before .before .before .before .if1 .left), ← c .before .before .before .field-at .ensures, ← c .before .before .text-fault .ensures, ne-eqb _ 0 (c .before .if2 .taken))
 
 field-at-requires-2 : tie.Need-field-at-requires-2
@@ -38,7 +38,7 @@ at-requires-3 : tie.Need-at-requires-3
 at-requires-3 c κs = search needs
 
 returns-3 : tie.Need-returns-3
-unfolding firstLine
+unfolding stationLine
 returns-3 c = rw (c .at3 .ensures, ← c .before .before .before .before .before .before .before .before .field-count .ensures, eq-eqb _ 3 (c .before .before .before .before .before .before .before .if1 .left), ← c .before .before .before .before .before .before .field-at .ensures, ← c .before .before .before .before .before .text-fault .ensures, eq-eqb _ 0 (c .before .before .before .before .if2 .left), ← c .before .before .before .field-at2 .ensures, ← c .before .before .text-fault2 .ensures, ne-eqb _ 0 (c .before .if3 .taken))
 
 field-at-requires-3 : tie.Need-field-at-requires-3
@@ -51,18 +51,18 @@ at-requires-4 : tie.Need-at-requires-4
 at-requires-4 c κs = search needs
 
 returns-4 : tie.Need-returns-4
-unfolding firstLine
+unfolding stationLine
 returns-4 c = rw (c .at4 .ensures, ← c .before .before .before .before .before .before .before .before .before .before .before .field-count .ensures, eq-eqb _ 3 (c .before .before .before .before .before .before .before .before .before .before .if1 .left), ← c .before .before .before .before .before .before .before .before .before .field-at .ensures, ← c .before .before .before .before .before .before .before .before .text-fault .ensures, eq-eqb _ 0 (c .before .before .before .before .before .before .before .if2 .left), ← c .before .before .before .before .before .before .field-at2 .ensures, ← c .before .before .before .before .before .text-fault2 .ensures, eq-eqb _ 0 (c .before .before .before .before .if3 .left), ← c .before .before .before .field-at3 .ensures, ← c .before .before .year-fault .ensures, ne-eqb _ 0 (c .before .if4 .taken))
 
 at-requires-5 : tie.Need-at-requires-5
 at-requires-5 c κs = search needs
 
 returns-5 : tie.Need-returns-5
-unfolding firstLine
+unfolding stationLine
 returns-5 c = rw (c .at5 .ensures, ← c .before .before .before .before .before .before .before .before .before .before .before .field-count .ensures, eq-eqb _ 3 (c .before .before .before .before .before .before .before .before .before .before .if1 .left), ← c .before .before .before .before .before .before .before .before .before .field-at .ensures, ← c .before .before .before .before .before .before .before .before .text-fault .ensures, eq-eqb _ 0 (c .before .before .before .before .before .before .before .if2 .left), ← c .before .before .before .before .before .before .field-at2 .ensures, ← c .before .before .before .before .before .text-fault2 .ensures, eq-eqb _ 0 (c .before .before .before .before .if3 .left), ← c .before .before .before .field-at3 .ensures, ← c .before .before .year-fault .ensures, eq-eqb _ 0 (c .before .if4 .left))
 
-pub first-line-spec : {M : Type 1} → statement M
-first-line-spec =
+pub station-line-spec : {M : Type 1} → statement M
+station-line-spec =
     tie.close
     (tie.spec
     field-count-requires

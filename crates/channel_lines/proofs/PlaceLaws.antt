@@ -16,7 +16,8 @@ use Rattle.reals.specs.Exact.{readLimit, maxBelow}
 use Rattle.line_fields.specs.Faults.{textFault, indexFault, realFault, sideFault, stateFault}
 use Rattle.line_fields.specs.Checks.{fault, hasFields, faultless, value}
 use Rattle.line_fields.specs.Answers.{faultOf}
-use Rattle.line_fields.proofs.PlaceLaws.{form, range, Ruled, text-check, index-check, real-check, value-check, has-fields-ruled, then-ruled, bind-ruled, faultless-ruled, agrees-ruled, number-ruled, part-is}
+use Rattle.line_fields.proofs.PlaceLaws.{form, range, Ruled, text-check, index-check, real-check, value-check}
+use Rattle.line_fields.proofs.PlaceLaws.{has-fields-ruled, then-ruled, bind-ruled, faultless-ruled, agrees-ruled, number-ruled, part-is}
 use Rattle.channel_lines.specs.Channels.{limitAt, channelsLine, names, scale, limits, analogLine, statusLine}
 
 -- min or max in field k, from the first on

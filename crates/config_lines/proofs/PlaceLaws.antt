@@ -21,7 +21,8 @@ use Rattle.codes.specs.declared.Code.the-variants as code
 use Rattle.codes.specs.Codes.{readCode, readLocalCode}
 use Rattle.line_fields.specs.Faults.{textFault, yearFault, frequencyFault, aboveFault, rateFault}
 use Rattle.line_fields.specs.Checks.{fault, hasFields, faultless, value}
-use Rattle.line_fields.proofs.PlaceLaws.{form, range, Ruled, text-check, year-check, frequency-check, above-check, rate-check, has-fields-ruled, then-ruled, bind-ruled, faultless-ruled, agrees-ruled, number-ruled}
+use Rattle.line_fields.proofs.PlaceLaws.{form, range, Ruled, text-check, year-check, frequency-check, above-check, rate-check}
+use Rattle.line_fields.proofs.PlaceLaws.{has-fields-ruled, then-ruled, bind-ruled, faultless-ruled, agrees-ruled, number-ruled}
 use Rattle.config_lines.specs.Lines.{dateAt, timeAt, kindAt, codeAt, localAt, stationLine, frequencyLine, ratesLine, rateLine, dateLine, kindLine, multiplierLine, codesLine, qualityLine}
 
 -- field k, from the first on

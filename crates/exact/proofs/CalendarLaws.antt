@@ -106,7 +106,8 @@ module _ (first trigger : Moment) (firstDate : validDate (first .date) ≡ true)
   pre-to : (p : Span) → between ≡ p → PreTrigger first trigger p
   unfolding inNanoseconds
   pre-to p e = rw (← e) (record {
-    apart = ap (λ (z : ℤ). pos (instant first) +ℤ z) between-is ∙ +ℤ-comm (pos (instant first)) (pos (instant trigger) -ℤ pos (instant first)) ∙ -ℤ-+ℤ-cancel (pos (instant trigger)) (pos (instant first));
+    apart = ap (λ (z : ℤ). pos (instant first) +ℤ z) between-is
+        ∙ +ℤ-comm (pos (instant first)) (pos (instant trigger) -ℤ pos (instant first)) ∙ -ℤ-+ℤ-cancel (pos (instant trigger)) (pos (instant first));
     below = between-below;
   })
 

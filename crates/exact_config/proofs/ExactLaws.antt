@@ -47,7 +47,8 @@ use Rattle.exact.proofs.AnswerLaws.{other-told}
 use Rattle.exact.proofs.ClockLaws.{day-exactly}
 use Rattle.exact.proofs.TimeLaws.{time-valid}
 use Rattle.exact.proofs.CalendarLaws.{pretrigger-exactly}
-use Rattle.exact_config.proofs.LineLaws.{station-line-exactly, channels-line-exactly, analog-line-exactly, status-line-exactly, frequency-line-exactly, rates-line-exactly, date-line-exactly, kind-line-exactly, multiplier-line-exactly, codes-line-exactly, quality-line-exactly}
+use Rattle.exact_config.proofs.LineLaws.{station-line-exactly, channels-line-exactly, analog-line-exactly, status-line-exactly, frequency-line-exactly, rates-line-exactly}
+use Rattle.exact_config.proofs.LineLaws.{date-line-exactly, kind-line-exactly, multiplier-line-exactly, codes-line-exactly, quality-line-exactly}
 use Rattle.exact_config.proofs.ConfigLaws.{LastEnd, done-reads, holds-reads, bind-reads, line-reads, last-reads, times-reads, lasts-reads}
 
 last-to : (before : ℕ) (l : List ℕ) → 1 ≤ length l → (others : List ℕ) × (l ≡ others ++ lastOf before l ∷ [])
@@ -147,7 +148,8 @@ config-reads s c =
     done-reads (shownBy v2 r lasts f t k v12 v13))))))))))))))))
     in (
       λ (p, e).
-          given (reads .exactly 1 s c (p .1) .0 (p .0, e)) (λ (z0, s0, (small, i0), (z1, s1, (l1, i1, g1), (v2, s2, (l2, i2, g2), (z3, s3, (t3, i3, g3), (z4, s4, (t4, i4, g4), (z5, s5, (l5, i5, g5), (r, s6, (l6, i6, g6), more))))))).
+          given (reads .exactly 1 s c (p .1) .0 (p .0, e)) (λ (z0, s0, (small, i0), start).
+          given start (λ (z1, s1, (l1, i1, g1), (v2, s2, (l2, i2, g2), (z3, s3, (t3, i3, g3), (z4, s4, (t4, i4, g4), (z5, s5, (l5, i5, g5), (r, s6, (l6, i6, g6), more)))))).
           given more (λ (lasts, s7, (t6, i7, n7, g7), (f, s8, (l7, i8, g8), (t, s9, (m7, i9, g9), (k, s10, (l8, i10, g10), (z11, s11, (l9, i11, g11), (v12, s12, (l10, i12, g12), last)))))).
           given last (λ (v13, s13, (l11, end, i13, g13, ends), (z14, s14, (none, i14), (shown, i15))).
           let nothing : s13 ≡ [] = walk.none s13 (omega (arith, eqb-true (length s13) 0 none)) in
@@ -187,9 +189,10 @@ config-reads s c =
             end = end;
             ends = end-of end s13 ends;
             whole = i0 ∙ i1 ∙ ap (_++_ (ended l1)) (i2 ∙ ap (_++_ (ended l2)) (i3 ∙ ap (_++_ t3) (i4 ∙ ap (_++_ t4) (i5 ∙ ap (_++_ (ended l5)) (i6 ∙ ap (_++_ (ended l6))
-                (i7 ∙ ap (_++_ t6) (i8 ∙ ap (_++_ (ended l7)) (i9 ∙ ap (_++_ (ended m7)) (i10 ∙ ap (_++_ (ended l8)) (i11 ∙ ap (_++_ (ended l9)) (i12 ∙ ap (_++_ (ended l10)) (i13 ∙ ap (_++_ l11) (ap (_++_ end) nothing ∙ append-nil end)))))))))))));
+                (i7 ∙ ap (_++_ t6) (i8 ∙ ap (_++_ (ended l7)) (i9 ∙ ap (_++_ (ended m7)) (i10 ∙ ap (_++_ (ended l8)) (i11 ∙ ap (_++_ (ended l9))
+                (i12 ∙ ap (_++_ (ended l10)) (i13 ∙ ap (_++_ l11) (ap (_++_ end) nothing ∙ append-nil end)))))))))))));
             small = leb-true (length s) 65536 small;
-          })))),
+          }))))),
       λ w.
           let s12 = w .l11 ++ w .end in
           let s11 = ended (w .l10) ++ s12 in

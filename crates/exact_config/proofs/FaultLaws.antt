@@ -28,7 +28,8 @@ use Rattle.fields.specs.Fields.{readYear, readState, readSide}
 use Rattle.reals.specs.declared.Real.{Real}
 use Rattle.reals.specs.declared.Real.the-variants as real
 use Rattle.reals.specs.Forms.{readReal}
-use Rattle.line_fields.specs.Faults.{valueOf, textFault, yearIs, yearFault, indexIs, indexFault, anyReal, realFault, frequencyFault, aboveZero, aboveFault, atZero, zeroFault, rateFault, sideFault, stateFault}
+use Rattle.line_fields.specs.Faults.{valueOf, textFault, yearIs, yearFault, indexIs, indexFault, anyReal, realFault}
+use Rattle.line_fields.specs.Faults.{frequencyFault, aboveZero, aboveFault, atZero, zeroFault, rateFault, sideFault, stateFault}
 use Rattle.paper.specs.Fields.{TextField, CountField, RealField, AnyReal}
 use Rattle.paper.specs.Lines.{rateSign}
 use Rattle.exact.proofs.CountLaws.{count-exactly}

@@ -35,7 +35,8 @@ use Rattle.config.specs.Reading as paper
 use Rattle.config.specs.Config.{configAnswer, lastRows, configuration, noConfig, readConfig}
 use Rattle.paper.specs.Lines.{Line, ended, StationLine, ChannelsLine, AnalogLine, StatusLine, FrequencyLine, RatesLine, rateSign, RateLine, DateLine, KindLine, MultiplierLine, CodesLine, QualityLine}
 use Rattle.paper.specs.Order.{Due, station, channels, frequency, rates, rate, first, trigger, kind, multiplier, codes, quality, statusDue, analogDue, rateDue, Right, RightLines, NoneRight, FailsAt}
-use Rattle.exact_config.proofs.LineLaws.{station-line-exactly, channels-line-exactly, analog-line-exactly, status-line-exactly, frequency-line-exactly, rates-line-exactly, rate-line-exactly, date-line-exactly, kind-line-exactly, multiplier-line-exactly, codes-line-exactly, quality-line-exactly}
+use Rattle.exact_config.proofs.LineLaws.{station-line-exactly, channels-line-exactly, analog-line-exactly, status-line-exactly, frequency-line-exactly, rates-line-exactly}
+use Rattle.exact_config.proofs.LineLaws.{rate-line-exactly, date-line-exactly, kind-line-exactly, multiplier-line-exactly, codes-line-exactly, quality-line-exactly}
 use Rattle.exact_config.proofs.ConfigLaws.{said-parts, in-line-told, line-reads, last-reads}
 use Rattle.exact_config.proofs.ExactLaws.{moment, quality-some}
 
@@ -213,14 +214,16 @@ pub lasts-walks : (n m before : ℕ) → Walks (lastRows (eqb n 0) m before) (ra
 lasts-walks n zero before = done-walks [] first
 lasts-walks n (suc m) before =
     bind-walks
-    (line-walks (rateLine (eqb n 0) before) (RateLine (rateSign n) before) (rate-line-exactly n before) (rate n m before) (λ l z r. (r .0, r .1)) (λ last. rateDue n m last) (λ last l g. (last, g, refl)) (λ q. clash (cc)))
+    (line-walks (rateLine (eqb n 0) before) (RateLine (rateSign n) before) (rate-line-exactly n before) (rate n m before) (λ l z r. (r .0, r .1))
+    (λ last. rateDue n m last) (λ last l g. (last, g, refl)) (λ q. clash (cc)))
     (λ last. bind-walks (lasts-walks n m last) (λ others. done-walks (last ∷ others) first))
 
 -- 9, or nothing
 nothing-more : {A : Type 0} (c : A) (p : Place) (e : Refusal) → paper._>>_ (λ q. holds (eqb (length (q .1)) 0) (refused 9 (q .0) 0) q) (done c) p ≡ refuses e → OfLine e → ⊥
 nothing-more c p e f o = nine (bind-cases (holds (eqb (length (p .1)) 0) (refused 9 (p .0) 0) p) (λ q. done c (q .1)) e f)
   where
-    nine : (holds (eqb (length (p .1)) 0) (refused 9 (p .0) 0) p ≡ refuses e) ⊎ ((q : Unit {0} × Place) × (holds (eqb (length (p .1)) 0) (refused 9 (p .0) 0) p ≡ says q) × (done c (q .1) ≡ refuses e)) → ⊥
+    nine : (holds (eqb (length (p .1)) 0) (refused 9 (p .0) 0) p ≡ refuses e)
+        ⊎ ((q : Unit {0} × Place) × (holds (eqb (length (p .1)) 0) (refused 9 (p .0) 0) p ≡ says q) × (done c (q .1) ≡ refuses e)) → ⊥
     nine (inl h) = let w = ap (λ (r : Refusal). r .number) (holds-refused (eqb (length (p .1)) 0) (refused 9 (p .0) 0) e p h) in absurd (omega arith)
     nine (inr (q, h, g)) = clash (cc)
 
@@ -229,18 +232,24 @@ unfolding configuration
 config-stops =
     bind-stops (holds-walks (λ s. leb (length s) 65536) (λ n. refused 1 0 0) station (λ n o. absurd (omega arith))) (λ z0.
     bind-stops (line-walks stationLine (λ z. StationLine) (λ z. station-line-exactly) station (λ l z r. (tt, r .0)) (λ z. channels) (λ z l g. (g, refl)) (λ q. clash (cc))) (λ z1.
-    bind-stops (line-walks channelsLine (λ v. ChannelsLine (v .0) (v .1)) (λ v. channels-line-exactly (v .0) (v .1)) channels (λ l z r. ((r .0, r .1), r .2)) (λ v. analogDue 1 (v .0) (v .1)) (λ v l g. (v .0, v .1, g, refl)) (λ q. clash (cc))) (λ v2.
-    bind-stops (times-walks analogLine AnalogLine analog-line-exactly (λ i m. analogDue i m (v2 .1)) (statusDue 1 (v2 .1)) (λ i. refl) (λ i m l g. (g, refl)) (λ i m l z r. r .0) (λ i m q. clash (cc)) (v2 .0) 1) (λ z3.
+    bind-stops (line-walks channelsLine (λ v. ChannelsLine (v .0) (v .1)) (λ v. channels-line-exactly (v .0) (v .1)) channels (λ l z r. ((r .0, r .1), r .2))
+    (λ v. analogDue 1 (v .0) (v .1)) (λ v l g. (v .0, v .1, g, refl)) (λ q. clash (cc))) (λ v2.
+    bind-stops (times-walks analogLine AnalogLine analog-line-exactly (λ i m. analogDue i m (v2 .1)) (statusDue 1 (v2 .1)) (λ i. refl)
+    (λ i m l g. (g, refl)) (λ i m l z r. r .0) (λ i m q. clash (cc)) (v2 .0) 1) (λ z3.
     bind-stops (times-walks statusLine StatusLine status-line-exactly statusDue frequency (λ i. refl) (λ i m l g. (g, refl)) (λ i m l z r. r .0) (λ i m q. clash (cc)) (v2 .1) 1) (λ z4.
     bind-stops (line-walks frequencyLine (λ z. FrequencyLine) (λ z. frequency-line-exactly) frequency (λ l z r. (tt, r .0)) (λ z. rates) (λ z l g. (g, refl)) (λ q. clash (cc))) (λ z5.
     bind-stops (line-walks ratesLine RatesLine rates-line-exactly rates (λ l z r. (r .0, r .1)) (λ n. rateDue n (max 1 n) 0) (λ n l g. (n, g, refl)) (λ q. clash (cc))) (λ r.
     bind-stops (lasts-walks r (max 1 r) 0) (λ lasts.
-    bind-stops (line-walks dateLine (λ v. DateLine (moment v)) (λ v. date-line-exactly (moment v)) first (λ l z r. ((r .0 .date, r .0 .time), r .1)) (λ v. trigger) (λ v l g. (moment v, g, refl)) (λ q. clash (cc))) (λ f.
-    bind-stops (line-walks dateLine (λ v. DateLine (moment v)) (λ v. date-line-exactly (moment v)) trigger (λ l z r. ((r .0 .date, r .0 .time), r .1)) (λ v. kind) (λ v l g. (moment v, g, refl)) (λ q. clash (cc))) (λ t.
+    bind-stops (line-walks dateLine (λ v. DateLine (moment v)) (λ v. date-line-exactly (moment v)) first (λ l z r. ((r .0 .date, r .0 .time), r .1))
+    (λ v. trigger) (λ v l g. (moment v, g, refl)) (λ q. clash (cc))) (λ f.
+    bind-stops (line-walks dateLine (λ v. DateLine (moment v)) (λ v. date-line-exactly (moment v)) trigger (λ l z r. ((r .0 .date, r .0 .time), r .1))
+    (λ v. kind) (λ v l g. (moment v, g, refl)) (λ q. clash (cc))) (λ t.
     bind-stops (line-walks kindLine KindLine kind-line-exactly kind (λ l z r. (r .0, r .1)) (λ k. multiplier) (λ k l g. (k, g, refl)) (λ q. clash (cc))) (λ k.
     bind-stops (line-walks multiplierLine (λ z. MultiplierLine) (λ z. multiplier-line-exactly) multiplier (λ l z r. (tt, r .0)) (λ z. codes) (λ z l g. (g, refl)) (λ q. clash (cc))) (λ z11.
-    bind-stops (line-walks codesLine (λ v. CodesLine (v .0) (v .2) (v .1)) (λ v. codes-line-exactly (v .0) (v .2) (v .1)) codes (λ l z r. ((r .0, r .2, r .1), r .3)) (λ v. quality) (λ v l g. (v .0, v .2, v .1, g, refl)) (λ q. clash (cc))) (λ v12.
-    only-stops (last-stops qualityLine (λ v. QualityLine (v .0) (v .1)) (λ v. quality-line-exactly (v .0) (v .1)) quality (λ l z r. ((r .0, r .1), r .2)) (λ v. quality-some (v .0) (v .1))) (λ v13. nothing-more _))))))))))))))
+    bind-stops (line-walks codesLine (λ v. CodesLine (v .0) (v .2) (v .1)) (λ v. codes-line-exactly (v .0) (v .2) (v .1)) codes (λ l z r. ((r .0, r .2, r .1), r .3))
+    (λ v. quality) (λ v l g. (v .0, v .2, v .1, g, refl)) (λ q. clash (cc))) (λ v12.
+    only-stops (last-stops qualityLine (λ v. QualityLine (v .0) (v .1)) (λ v. quality-line-exactly (v .0) (v .1)) quality (λ l z r. ((r .0, r .1), r .2))
+    (λ v. quality-some (v .0) (v .1))) (λ v13. nothing-more _))))))))))))))
 
 refused-said : (x : Said Refusal (Config × Place)) (r : Refusal) → configAnswer (saidOf x) ≡ record { answer = No r; config = noConfig } → x ≡ refuses r
 refused-said (says (c, p)) r e = let q : Yes ≡ No r = ap (λ (a : ConfigAnswer). a .answer) e in clash (cc)

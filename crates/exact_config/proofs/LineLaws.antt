@@ -51,7 +51,8 @@ use Rattle.model.specs.declared.Kind.{Kind}
 use Rattle.config_rules.specs.declared.Moment.{Moment}
 use Rattle.paper.specs.Fields.{isBetween, CountIn, Limits}
 use Rattle.paper.specs.Fields as paper
-use Rattle.paper.specs.Lines.{Fields, ChannelNames, StationLine, ChannelsLine, AnalogLine, StatusLine, FrequencyLine, RatesLine, rateSign, RateLine, DateLine, KindLine, MultiplierLine, LocalField, CodesLine, QualityLine}
+use Rattle.paper.specs.Lines.{Fields, ChannelNames, StationLine, ChannelsLine, AnalogLine, StatusLine, FrequencyLine, RatesLine}
+use Rattle.paper.specs.Lines.{rateSign, RateLine, DateLine, KindLine, MultiplierLine, LocalField, CodesLine, QualityLine}
 use Rattle.exact.proofs.CommaLaws.{fields-exactly, fields-of}
 use Rattle.exact.proofs.FieldLaws.{in-exactly, lettered-exactly}
 use Rattle.exact.proofs.CharacterLaws.{quality-exactly, leap-exactly}

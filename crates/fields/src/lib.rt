@@ -4,7 +4,8 @@ use model::Kind;
 use numerals::Count;
 ghost use mathlib.Core.Path.{_≡_};
 ghost use Prim.Native.Nat.{_≤_};
-ghost use Rattle.fields.specs.Fields.{inRange, readCountIn, readLettered, readYear, isAmong, readOneOf, digitValue, readDigitOf, readState, readSide, readQuality, readLeap, small, sameWord, readKind};
+ghost use Rattle.fields.specs.Fields.{inRange, readCountIn, readLettered, readYear, isAmong, readOneOf, digitValue, readDigitOf};
+ghost use Rattle.fields.specs.Fields.{readState, readSide, readQuality, readLeap, small, sameWord, readKind};
 ghost use Prim.Native.Nat.{_-_};
 
 // A value, a wrong form, or a value that is not allowed.

@@ -1,5 +1,6 @@
--- READ THIS FIRST. What a configuration is and what it shows (here), the data files (Data, and Written for what is written), a configuration's lines (Lines), their fields (Fields). No reader and no writer stands in these files.
--- The theorems of crate `demands` (docs/DEMANDS.md) prove that read_config, check and show_row accept exactly these and show exactly this. Not said here: at which line a file that is no configuration first fails (Order), and which refusal a file gets (config/specs/Config.antt, read from the top).
+-- READ THIS FIRST. What a configuration is and what it shows (here), the data files (Data, and Written for what is written), a configuration's lines (Lines), their fields (Fields).
+-- No reader and no writer stands in these files. The theorems of crate `demands` (docs/DEMANDS.md) prove that read_config, check and show_row accept exactly these and show exactly this.
+-- Not said here: at which line a file that is no configuration first fails (Order), and which refusal a file gets (config/specs/Config.antt, read from the top).
 use mathlib.Core.Path.{_≡_}
 use mathlib.Core.Logic.{_⊎_}
 use mathlib.Core.List.{List, [], _∷_, _++_}
@@ -13,7 +14,8 @@ use Rattle.reals.specs.declared.Real.{Real}
 use Rattle.config_rules.specs.declared.Moment.{Moment}
 use Rattle.config_rules.specs.declared.Config.{Config}
 use Rattle.paper.specs.Fields.{monthLengths}
-use Rattle.paper.specs.Lines.{Line, ended, StationLine, ChannelsLine, AnalogLine, StatusLine, FrequencyLine, RatesLine, rateSign, RateLine, DateLine, KindLine, MultiplierLine, CodesLine, QualityLine}
+use Rattle.paper.specs.Lines.{Line, ended, StationLine, ChannelsLine, AnalogLine, StatusLine, FrequencyLine, RatesLine}
+use Rattle.paper.specs.Lines.{rateSign, RateLine, DateLine, KindLine, MultiplierLine, CodesLine, QualityLine}
 
 -- t is m lines, each with its CR LF, the first of them P of i, the next P of i + 1, ..
 abbrev pub Lines : (ℕ → List ℕ → Type 0) → ℕ → ℕ → List ℕ → Type 0

@@ -44,7 +44,9 @@ returns-2 c = rw (c .at2 .ensures, ← c .before .before .before .before .field-
 
 returns-3 : tie.Need-returns-3
 unfolding limits maxFrom
-returns-3 c = rw (c .max-fault .ensures, ← c .before .before .before .before .before .before .field-at .ensures, ← c .before .before .before .before .before .read-limit .ensures, c .before .before .before .min .given .1, ← c .before .field-at2 .ensures)
+returns-3 c =
+    let m = c .before .before .before in
+    rw (c .max-fault .ensures, ← m .before .before .before .field-at .ensures, ← m .before .before .read-limit .ensures, m .min .given .1, ← c .before .field-at2 .ensures)
 
 pub limits-fault-spec : {M : Type 1} → statement M
 limits-fault-spec =

@@ -25,14 +25,18 @@ enum-known-max : tie.Need-enum-known-max
 enum-known-max c = search needs
 
 max-below-requires : tie.Need-max-below-requires
-max-below-requires c κs = (limit-sound (c .before .before .before .before .before .args .field .now) (c .before .max .given .0 .0) (sym (c .before .before .before .read-limit .ensures) ∙ c .before .max .given .1), c .before .before .before .before .before .pre)
+max-below-requires c κs =
+    let l = c .before .before .before in
+    (limit-sound (l .before .before .args .field .now) (c .before .max .given .0 .0) (sym (l .read-limit .ensures) ∙ c .before .max .given .1), l .before .before .pre)
 
 at-requires-3 : tie.Need-at-requires-3
 at-requires-3 c κs = search needs
 
 returns : tie.Need-returns
 unfolding maxFrom
-returns c = rw (c .at3 .ensures, ← c .before .before .before .before .before .before .read-limit .ensures, c .before .before .before .before .max .given .1, ← c .before .before .max-below .ensures, c .before .if1 .taken)
+returns c =
+    let m = c .before .before .before .before in
+    rw (c .at3 .ensures, ← m .before .before .read-limit .ensures, m .max .given .1, ← c .before .before .max-below .ensures, c .before .if1 .taken)
 
 at-requires-4 : tie.Need-at-requires-4
 at-requires-4 c κs = search needs
@@ -47,7 +51,9 @@ returns-3 c = rw (c .at2 .ensures, ← c .before .before .before .read-limit .en
 
 returns-4 : tie.Need-returns-4
 unfolding maxFrom
-returns-4 c = rw (c .at4 .ensures, ← c .before .before .before .before .before .before .read-limit .ensures, c .before .before .before .before .max .given .1, ← c .before .before .max-below .ensures, c .before .if1 .left)
+returns-4 c =
+    let m = c .before .before .before .before in
+    rw (c .at4 .ensures, ← m .before .before .read-limit .ensures, m .max .given .1, ← c .before .before .max-below .ensures, c .before .if1 .left)
 
 pub max-fault-spec : {M : Type 1} → statement M
 max-fault-spec =

@@ -1,10 +1,11 @@
 -- `codes_line` meets its contract.
 use mir.Syntax.{w64}
 use mir.Val.{toZ, ofZ}
-use borrow.Author.Tests.{eq-eqb, ne-eqb}
+use borrow.Author.Tests.{ne-eqb}
 use mathlib.Core.Path.{_≡_}
 use Rattle.config_lines.specs.Lines.{codesLine}
 use Rattle.config_lines.specs.Inner.{withLocal}
+use Rattle.text.specs.Fields.{fieldCount}
 use borrow.Author.Needs.{needs}
 use Rattle.config_lines.proofs.codes_line.Statement.{statement}
 use Rattle.config_lines.proofs.codes_line.Tie as tie
@@ -14,6 +15,10 @@ field-count-requires c κs = search needs
 
 codes-said-requires : tie.Need-codes-said-requires
 codes-said-requires c κs = search needs
+
+-- the line has so many fields
+counted : (c : tie.Else1) → fieldCount (c .before .before .before .args .line .now) ≡ 2
+counted c = rw (← c .before .field-count .ensures) (c .if1 .left)
 
 returns : tie.Need-returns
 unfolding codesLine
@@ -55,20 +60,28 @@ codes-said-requires-4 c κs = search needs
 returns-2 : tie.Need-returns-2
 unfolding codesLine withLocal
 returns-2 c =
-    let e : toZ w64 (ofZ w64 (c .before .before .before .m .given .0 .0)) ≡ c .before .before .before .m .given .0 .0 = search needs in
-    rw (c .with-local .ensures, e, ← c .before .before .before .before .before .before .before .before .field-count .ensures, eq-eqb _ 2 (c .before .before .before .before .before .before .before .if1 .left), ← c .before .before .before .before .before .before .field-at .ensures, ← c .before .before .before .before .before .read-code .ensures, c .before .before .before .m .given .1, ← c .before .field-at2 .ensures)
+    let m = c .before .before .before in
+    let r = m .before .before in
+    let e : toZ w64 (ofZ w64 (m .m .given .0 .0)) ≡ m .m .given .0 .0 = search needs in
+    rw (c .with-local .ensures, e, counted (r .before .before), ← r .before .field-at .ensures, ← r .read-code .ensures, m .m .given .1, ← c .before .field-at2 .ensures)
 
 returns-3 : tie.Need-returns-3
 unfolding codesLine
-returns-3 c = rw (c .codes-said2 .ensures, ← c .before .before .before .before .before .before .field-count .ensures, eq-eqb _ 2 (c .before .before .before .before .before .if1 .left), ← c .before .before .before .before .field-at .ensures, ← c .before .before .before .read-code .ensures, c .before .enum-told .given .1)
+returns-3 c =
+    let r = c .before .before .before in
+    rw (c .codes-said2 .ensures, counted (r .before .before), ← r .before .field-at .ensures, ← r .read-code .ensures, c .before .enum-told .given .1)
 
 returns-4 : tie.Need-returns-4
 unfolding codesLine
-returns-4 c = rw (c .codes-said3 .ensures, ← c .before .before .before .before .before .before .field-count .ensures, eq-eqb _ 2 (c .before .before .before .before .before .if1 .left), ← c .before .before .before .before .field-at .ensures, ← c .before .before .before .read-code .ensures, c .before .enum-told2 .given .1)
+returns-4 c =
+    let r = c .before .before .before in
+    rw (c .codes-said3 .ensures, counted (r .before .before), ← r .before .field-at .ensures, ← r .read-code .ensures, c .before .enum-told2 .given .1)
 
 returns-5 : tie.Need-returns-5
 unfolding codesLine
-returns-5 c = rw (c .codes-said4 .ensures, ← c .before .before .before .before .before .before .field-count .ensures, eq-eqb _ 2 (c .before .before .before .before .before .if1 .left), ← c .before .before .before .before .field-at .ensures, ← c .before .before .before .read-code .ensures, c .before .enum-told3 .given .1)
+returns-5 c =
+    let r = c .before .before .before in
+    rw (c .codes-said4 .ensures, counted (r .before .before), ← r .before .field-at .ensures, ← r .read-code .ensures, c .before .enum-told3 .given .1)
 
 pub codes-line-spec : {M : Type 1} → statement M
 codes-line-spec =

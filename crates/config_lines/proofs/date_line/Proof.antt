@@ -1,7 +1,9 @@
 -- `date_line` meets its contract.
-use borrow.Author.Tests.{eq-eqb, ne-eqb}
+use borrow.Author.Tests.{ne-eqb}
 use Rattle.config_lines.specs.Lines.{dateLine}
 use Rattle.config_lines.specs.Inner.{withTime}
+use mathlib.Core.Path.{_≡_}
+use Rattle.text.specs.Fields.{fieldCount}
 use borrow.Author.Needs.{needs}
 use Rattle.config_lines.proofs.date_line.Statement.{statement}
 use Rattle.config_lines.proofs.date_line.Tie as tie
@@ -11,6 +13,10 @@ field-count-requires c κs = search needs
 
 no-date-requires : tie.Need-no-date-requires
 no-date-requires c κs = search needs
+
+-- the line has so many fields
+counted : (c : tie.Else1) → fieldCount (c .before .before .before .args .line .now) ≡ 2
+counted c = rw (← c .before .field-count .ensures) (c .if1 .left)
 
 returns : tie.Need-returns
 unfolding dateLine
@@ -45,15 +51,22 @@ with-time-requires c κs = search needs
 
 returns-2 : tie.Need-returns-2
 unfolding dateLine
-returns-2 c = rw (c .no-date2 .ensures, ← c .before .before .before .before .before .before .field-count .ensures, eq-eqb _ 2 (c .before .before .before .before .before .if1 .left), ← c .before .before .before .before .field-at .ensures, ← c .before .before .before .read-date .ensures, c .before .enum-told .given .1)
+returns-2 c =
+    let r = c .before .before .before in
+    rw (c .no-date2 .ensures, counted (r .before .before), ← r .before .field-at .ensures, ← r .read-date .ensures, c .before .enum-told .given .1)
 
 returns-3 : tie.Need-returns-3
 unfolding dateLine
-returns-3 c = rw (c .no-date3 .ensures, ← c .before .before .before .before .before .before .field-count .ensures, eq-eqb _ 2 (c .before .before .before .before .before .if1 .left), ← c .before .before .before .before .field-at .ensures, ← c .before .before .before .read-date .ensures, c .before .enum-told2 .given .1)
+returns-3 c =
+    let r = c .before .before .before in
+    rw (c .no-date3 .ensures, counted (r .before .before), ← r .before .field-at .ensures, ← r .read-date .ensures, c .before .enum-told2 .given .1)
 
 returns-4 : tie.Need-returns-4
 unfolding dateLine withTime
-returns-4 c = rw (c .with-time .ensures, ← c .before .before .before .before .before .before .before .before .field-count .ensures, eq-eqb _ 2 (c .before .before .before .before .before .before .before .if1 .left), ← c .before .before .before .before .before .before .field-at .ensures, ← c .before .before .before .before .before .read-date .ensures, c .before .before .before .date .given .1, ← c .before .field-at2 .ensures)
+returns-4 c =
+    let d = c .before .before .before in
+    let r = d .before .before in
+    rw (c .with-time .ensures, counted (r .before .before), ← r .before .field-at .ensures, ← r .read-date .ensures, d .date .given .1, ← c .before .field-at2 .ensures)
 
 pub date-line-spec : {M : Type 1} → statement M
 date-line-spec =

@@ -1,6 +1,8 @@
 -- `kind_line` meets its contract.
-use borrow.Author.Tests.{eq-eqb, ne-eqb}
+use borrow.Author.Tests.{ne-eqb}
 use Rattle.config_lines.specs.Lines.{kindLine}
+use mathlib.Core.Path.{_≡_}
+use Rattle.text.specs.Fields.{fieldCount}
 use borrow.Author.Needs.{needs}
 use Rattle.config_lines.proofs.kind_line.Statement.{statement}
 use Rattle.config_lines.proofs.kind_line.Tie as tie
@@ -10,6 +12,10 @@ field-count-requires c κs = search needs
 
 kind-said-requires : tie.Need-kind-said-requires
 kind-said-requires c κs = search needs
+
+-- the line has so many fields
+counted : (c : tie.Else1) → fieldCount (c .before .before .before .args .line .now) ≡ 1
+counted c = rw (← c .before .field-count .ensures) (c .if1 .left)
 
 returns : tie.Need-returns
 unfolding kindLine
@@ -41,15 +47,21 @@ kind-said-requires-4 c κs = search needs
 
 returns-2 : tie.Need-returns-2
 unfolding kindLine
-returns-2 c = rw (c .kind-said2 .ensures, ← c .before .before .before .before .before .before .field-count .ensures, eq-eqb _ 1 (c .before .before .before .before .before .if1 .left), ← c .before .before .before .before .field-at .ensures, ← c .before .before .before .read-kind .ensures, c .before .enum-told .given .1)
+returns-2 c =
+    let r = c .before .before .before in
+    rw (c .kind-said2 .ensures, counted (r .before .before), ← r .before .field-at .ensures, ← r .read-kind .ensures, c .before .enum-told .given .1)
 
 returns-3 : tie.Need-returns-3
 unfolding kindLine
-returns-3 c = rw (c .kind-said3 .ensures, ← c .before .before .before .before .before .before .field-count .ensures, eq-eqb _ 1 (c .before .before .before .before .before .if1 .left), ← c .before .before .before .before .field-at .ensures, ← c .before .before .before .read-kind .ensures, c .before .enum-told2 .given .1)
+returns-3 c =
+    let r = c .before .before .before in
+    rw (c .kind-said3 .ensures, counted (r .before .before), ← r .before .field-at .ensures, ← r .read-kind .ensures, c .before .enum-told2 .given .1)
 
 returns-4 : tie.Need-returns-4
 unfolding kindLine
-returns-4 c = rw (c .kind-said4 .ensures, ← c .before .before .before .before .before .before .before .field-count .ensures, eq-eqb _ 1 (c .before .before .before .before .before .before .if1 .left), ← c .before .before .before .before .before .field-at .ensures, ← c .before .before .before .before .read-kind .ensures, c .before .before .kind .given .1)
+returns-4 c =
+    let r = c .before .before .before .before in
+    rw (c .kind-said4 .ensures, counted (r .before .before), ← r .before .field-at .ensures, ← r .read-kind .ensures, c .before .before .kind .given .1)
 
 pub kind-line-spec : {M : Type 1} → statement M
 kind-line-spec =

@@ -1,6 +1,8 @@
 -- `multiplier_line` meets its contract: each return follows from the checks before it.
 use borrow.Author.Tests.{eq-eqb, ne-eqb}
 use Rattle.config_lines.specs.Lines.{multiplierLine}
+use mathlib.Core.Path.{_≡_}
+use Rattle.text.specs.Fields.{fieldCount}
 use borrow.Author.Needs.{needs}
 use Rattle.config_lines.proofs.multiplier_line.Statement.{statement}
 use Rattle.config_lines.proofs.multiplier_line.Tie as tie
@@ -10,6 +12,10 @@ field-count-requires c κs = search needs
 
 at-requires : tie.Need-at-requires
 at-requires c κs = search needs
+
+-- the line has so many fields
+counted : (c : tie.Else1) → fieldCount (c .before .before .before .args .line .now) ≡ 1
+counted c = rw (← c .before .field-count .ensures) (c .if1 .left)
 
 returns : tie.Need-returns
 unfolding multiplierLine
@@ -26,14 +32,18 @@ at-requires-2 c κs = search needs
 
 returns-2 : tie.Need-returns-2
 unfolding multiplierLine
-returns-2 c = rw (c .at2 .ensures, ← c .before .before .before .before .before .field-count .ensures, eq-eqb _ 1 (c .before .before .before .before .if1 .left), ← c .before .before .before .field-at .ensures, ← c .before .before .above-fault .ensures, ne-eqb _ 0 (c .before .if2 .taken))
+returns-2 c =
+    let v = c .before .before in
+    rw (c .at2 .ensures, counted (v .before .before), ← v .before .field-at .ensures, ← v .above-fault .ensures, ne-eqb _ 0 (c .before .if2 .taken))
 
 at-requires-3 : tie.Need-at-requires-3
 at-requires-3 c κs = search needs
 
 returns-3 : tie.Need-returns-3
 unfolding multiplierLine
-returns-3 c = rw (c .at3 .ensures, ← c .before .before .before .before .before .field-count .ensures, eq-eqb _ 1 (c .before .before .before .before .if1 .left), ← c .before .before .before .field-at .ensures, ← c .before .before .above-fault .ensures, eq-eqb _ 0 (c .before .if2 .left))
+returns-3 c =
+    let v = c .before .before in
+    rw (c .at3 .ensures, counted (v .before .before), ← v .before .field-at .ensures, ← v .above-fault .ensures, eq-eqb _ 0 (c .before .if2 .left))
 
 pub multiplier-line-spec : {M : Type 1} → statement M
 multiplier-line-spec =

@@ -2,6 +2,13 @@
 use borrow.Author.Tests.{eq-eqb, ne-eqb}
 use Rattle.config_lines.specs.Lines.{qualityLine}
 use Rattle.line_fields.proofs.ValueLaws.{number-is}
+use mathlib.Core.Path.{_≡_}
+use lib.Dec.{eqb}
+use Rattle.ground.specs.Choice.{if_then_else_}
+use Rattle.ground.specs.Said.{says, refuses}
+use Rattle.text.specs.Fields.{fieldCount}
+use Rattle.fields.specs.Fields.{readQuality, readLeap}
+use Rattle.line_fields.specs.Checks.{fault, value}
 use borrow.Author.Needs.{needs}
 use Rattle.config_lines.proofs.quality_line.Statement.{statement}
 use Rattle.config_lines.proofs.quality_line.Tie as tie
@@ -11,6 +18,20 @@ field-count-requires c κs = search needs
 
 quality-of-requires : tie.Need-quality-of-requires
 quality-of-requires c κs = search needs
+
+-- the checks that were passed: the number of fields and the quality
+counted : (c : tie.Else1) → fieldCount (c .before .before .before .args .line .now) ≡ 2
+counted c = rw (← c .before .field-count .ensures) (c .if1 .left)
+
+quality : (c : tie.Else2) → value 1 readQuality (c .before .before .before .before .before .before .before .before .args .line .now) ≡ says (c .before .before .value-of .result .value)
+quality c =
+    let v = c .before .before in
+    rw (← v .before .before .field-at .ensures, ← v .before .read-quality .ensures, number-is 1 _, ← v .value-of .ensures, eq-eqb _ 0 (c .if2 .left))
+
+-- what is told of the leap second code
+leap : (c : tie.After-value-of2) → value 2 readLeap (c .before .before .before .before .before .before .before .before .before .before .before .args .line .now)
+    ≡ (if eqb (c .value-of2 .result .number) 0 then says (c .value-of2 .result .value) else refuses (fault (c .value-of2 .result .number) 2))
+leap c = rw (← c .before .before .field-at2 .ensures, ← c .before .read-leap .ensures, number-is 2 _, ← c .value-of2 .ensures)
 
 returns : tie.Need-returns
 unfolding qualityLine
@@ -30,7 +51,10 @@ quality-of-requires-2 c κs = search needs
 
 returns-2 : tie.Need-returns-2
 unfolding qualityLine
-returns-2 c = rw (c .quality-of2 .ensures, ← c .before .before .before .before .before .before .before .field-count .ensures, eq-eqb _ 2 (c .before .before .before .before .before .before .if1 .left), ← c .before .before .before .before .before .field-at .ensures, ← c .before .before .before .before .read-quality .ensures, number-is 1 _, ← c .before .before .before .value-of .ensures, ne-eqb _ 0 (c .before .if2 .taken))
+returns-2 c =
+    let v = c .before .before .before in
+    rw (c .quality-of2 .ensures, counted (v .before .before .before), ← v .before .before .field-at .ensures, ← v .before .read-quality .ensures)
+    (rw (number-is 1 _, ← v .value-of .ensures, ne-eqb _ 0 (c .before .if2 .taken)))
 
 field-at-requires-2 : tie.Need-field-at-requires-2
 field-at-requires-2 c κs = search needs
@@ -46,14 +70,18 @@ quality-of-requires-3 c κs = search needs
 
 returns-3 : tie.Need-returns-3
 unfolding qualityLine
-returns-3 c = rw (c .quality-of3 .ensures, ← c .before .before .before .before .before .before .before .before .before .before .before .before .field-count .ensures, eq-eqb _ 2 (c .before .before .before .before .before .before .before .before .before .before .before .if1 .left), ← c .before .before .before .before .before .before .before .before .before .before .field-at .ensures, ← c .before .before .before .before .before .before .before .before .before .read-quality .ensures, number-is 1 _, ← c .before .before .before .before .before .before .before .before .value-of .ensures, eq-eqb _ 0 (c .before .before .before .before .before .before .if2 .left), ← c .before .before .before .before .before .field-at2 .ensures, ← c .before .before .before .before .read-leap .ensures, number-is 2 _, ← c .before .before .before .value-of2 .ensures, ne-eqb _ 0 (c .before .if3 .taken))
+returns-3 c =
+    let q = c .before .before .before .before .before .before in
+    rw (c .quality-of3 .ensures, counted (q .before .before .before .before .before), quality q, leap (c .before .before .before), ne-eqb _ 0 (c .before .if3 .taken))
 
 quality-of-requires-4 : tie.Need-quality-of-requires-4
 quality-of-requires-4 c κs = search needs
 
 returns-4 : tie.Need-returns-4
 unfolding qualityLine
-returns-4 c = rw (c .quality-of4 .ensures, ← c .before .before .before .before .before .before .before .before .before .before .before .before .field-count .ensures, eq-eqb _ 2 (c .before .before .before .before .before .before .before .before .before .before .before .if1 .left), ← c .before .before .before .before .before .before .before .before .before .before .field-at .ensures, ← c .before .before .before .before .before .before .before .before .before .read-quality .ensures, number-is 1 _, ← c .before .before .before .before .before .before .before .before .value-of .ensures, eq-eqb _ 0 (c .before .before .before .before .before .before .if2 .left), ← c .before .before .before .before .before .field-at2 .ensures, ← c .before .before .before .before .read-leap .ensures, number-is 2 _, ← c .before .before .before .value-of2 .ensures, eq-eqb _ 0 (c .before .if3 .left))
+returns-4 c =
+    let q = c .before .before .before .before .before .before in
+    rw (c .quality-of4 .ensures, counted (q .before .before .before .before .before), quality q, leap (c .before .before .before), eq-eqb _ 0 (c .before .if3 .left))
 
 pub quality-line-spec : {M : Type 1} → statement M
 quality-line-spec =

@@ -1,6 +1,9 @@
 -- `station_line` meets its contract: each return follows from the checks before it.
-use borrow.Author.Tests.{eq-eqb, ne-eqb}
+use borrow.Author.Tests.{ne-eqb}
 use Rattle.config_lines.specs.Lines.{stationLine}
+use mathlib.Core.Path.{_≡_}
+use Rattle.text.specs.Fields.{fieldCount, fieldAt}
+use Rattle.line_fields.specs.Faults.{textFault, yearFault}
 use borrow.Author.Needs.{needs}
 use Rattle.config_lines.proofs.station_line.Statement.{statement}
 use Rattle.config_lines.proofs.station_line.Tie as tie
@@ -10,6 +13,19 @@ field-count-requires c κs = search needs
 
 at-requires : tie.Need-at-requires
 at-requires c κs = search needs
+
+-- the checks that were passed: the number of fields, station, device and year
+counted : (c : tie.Else1) → fieldCount (c .before .before .before .args .line .now) ≡ 3
+counted c = rw (← c .before .field-count .ensures) (c .if1 .left)
+
+station : (c : tie.Else2) → textFault 0 64 (fieldAt 1 (c .before .before .before .before .before .before .args .line .now)) ≡ 0
+station c = rw (← c .before .before .field-at .ensures, ← c .before .text-fault .ensures) (c .if2 .left)
+
+device : (c : tie.Else3) → textFault 0 64 (fieldAt 2 (c .before .before .before .before .before .before .before .before .before .args .line .now)) ≡ 0
+device c = rw (← c .before .before .field-at2 .ensures, ← c .before .text-fault2 .ensures) (c .if3 .left)
+
+year : (c : tie.Else4) → yearFault (fieldAt 3 (c .before .before .before .before .before .before .before .before .before .before .before .before .args .line .now)) ≡ 0
+year c = rw (← c .before .before .field-at3 .ensures, ← c .before .year-fault .ensures) (c .if4 .left)
 
 returns : tie.Need-returns
 unfolding stationLine
@@ -26,7 +42,9 @@ at-requires-2 c κs = search needs
 
 returns-2 : tie.Need-returns-2
 unfolding stationLine
-returns-2 c = rw (c .at2 .ensures, ← c .before .before .before .before .before .field-count .ensures, eq-eqb _ 3 (c .before .before .before .before .if1 .left), ← c .before .before .before .field-at .ensures, ← c .before .before .text-fault .ensures, ne-eqb _ 0 (c .before .if2 .taken))
+returns-2 c =
+    let v = c .before .before in
+    rw (c .at2 .ensures, counted (v .before .before), ← v .before .field-at .ensures, ← v .text-fault .ensures, ne-eqb _ 0 (c .before .if2 .taken))
 
 field-at-requires-2 : tie.Need-field-at-requires-2
 field-at-requires-2 c κs = search needs
@@ -39,7 +57,10 @@ at-requires-3 c κs = search needs
 
 returns-3 : tie.Need-returns-3
 unfolding stationLine
-returns-3 c = rw (c .at3 .ensures, ← c .before .before .before .before .before .before .before .before .field-count .ensures, eq-eqb _ 3 (c .before .before .before .before .before .before .before .if1 .left), ← c .before .before .before .before .before .before .field-at .ensures, ← c .before .before .before .before .before .text-fault .ensures, eq-eqb _ 0 (c .before .before .before .before .if2 .left), ← c .before .before .before .field-at2 .ensures, ← c .before .before .text-fault2 .ensures, ne-eqb _ 0 (c .before .if3 .taken))
+returns-3 c =
+    let v = c .before .before in
+    let e = v .before .before in
+    rw (c .at3 .ensures, counted (e .before .before .before), station e, ← v .before .field-at2 .ensures, ← v .text-fault2 .ensures, ne-eqb _ 0 (c .before .if3 .taken))
 
 field-at-requires-3 : tie.Need-field-at-requires-3
 field-at-requires-3 c κs = search needs
@@ -52,14 +73,21 @@ at-requires-4 c κs = search needs
 
 returns-4 : tie.Need-returns-4
 unfolding stationLine
-returns-4 c = rw (c .at4 .ensures, ← c .before .before .before .before .before .before .before .before .before .before .before .field-count .ensures, eq-eqb _ 3 (c .before .before .before .before .before .before .before .before .before .before .if1 .left), ← c .before .before .before .before .before .before .before .before .before .field-at .ensures, ← c .before .before .before .before .before .before .before .before .text-fault .ensures, eq-eqb _ 0 (c .before .before .before .before .before .before .before .if2 .left), ← c .before .before .before .before .before .before .field-at2 .ensures, ← c .before .before .before .before .before .text-fault2 .ensures, eq-eqb _ 0 (c .before .before .before .before .if3 .left), ← c .before .before .before .field-at3 .ensures, ← c .before .before .year-fault .ensures, ne-eqb _ 0 (c .before .if4 .taken))
+returns-4 c =
+    let v = c .before .before in
+    let e = v .before .before in
+    let d = e .before .before .before in
+    rw (c .at4 .ensures, counted (d .before .before .before), station d, device e, ← v .before .field-at3 .ensures, ← v .year-fault .ensures, ne-eqb _ 0 (c .before .if4 .taken))
 
 at-requires-5 : tie.Need-at-requires-5
 at-requires-5 c κs = search needs
 
 returns-5 : tie.Need-returns-5
 unfolding stationLine
-returns-5 c = rw (c .at5 .ensures, ← c .before .before .before .before .before .before .before .before .before .before .before .field-count .ensures, eq-eqb _ 3 (c .before .before .before .before .before .before .before .before .before .before .if1 .left), ← c .before .before .before .before .before .before .before .before .before .field-at .ensures, ← c .before .before .before .before .before .before .before .before .text-fault .ensures, eq-eqb _ 0 (c .before .before .before .before .before .before .before .if2 .left), ← c .before .before .before .before .before .before .field-at2 .ensures, ← c .before .before .before .before .before .text-fault2 .ensures, eq-eqb _ 0 (c .before .before .before .before .if3 .left), ← c .before .before .before .field-at3 .ensures, ← c .before .before .year-fault .ensures, eq-eqb _ 0 (c .before .if4 .left))
+returns-5 c =
+    let e = c .before .before .before .before in
+    let d = e .before .before .before in
+    rw (c .at5 .ensures, counted (d .before .before .before), station d, device e, year (c .before))
 
 pub station-line-spec : {M : Type 1} → statement M
 station-line-spec =

@@ -38,12 +38,15 @@ codes-said-requires-4 c κs = search needs
 returns : tie.Need-returns
 unfolding withLocal
 returns c =
+    let s = c .before .before .before .before .before .before in
     let e : toZ w64 (ofZ w64 (c .before .before .m .given .0 .0)) ≡ c .before .before .m .given .0 .0 = search needs in
-    rw (c .codes-said .ensures, ← c .before .before .before .before .read-local-code .ensures, c .before .before .m .given .1, toZ-ofZ w64 (c .before .before .before .before .before .before .args .code) (c .before .before .before .before .before .before .fits .code), e)
+    rw (c .codes-said .ensures, ← c .before .before .before .before .read-local-code .ensures, c .before .before .m .given .1, toZ-ofZ w64 (s .args .code) (s .fits .code), e)
 
 returns-2 : tie.Need-returns-2
 unfolding withLocal
-returns-2 c = rw (c .codes-said2 .ensures, ← c .before .before .before .read-local-code .ensures, c .before .enum-told .given .1, toZ-ofZ w64 (c .before .before .before .before .before .args .code) (c .before .before .before .before .before .fits .code))
+returns-2 c =
+    let s = c .before .before .before .before .before in
+    rw (c .codes-said2 .ensures, ← c .before .before .before .read-local-code .ensures, c .before .enum-told .given .1, toZ-ofZ w64 (s .args .code) (s .fits .code))
 
 returns-3 : tie.Need-returns-3
 unfolding withLocal

@@ -9,7 +9,10 @@ unfolding spanTo
 returns c = rw (ne-eqb _ 0 (c .if1 .taken))
 
 pre-trigger-requires : tie.Need-pre-trigger-requires
-pre-trigger-requires c κs = let v = c .before .before .before .before .before .before .before .pre .1 (c .before .before .before .before .if1 .left) in (c .before .before .before .before .before .before .before .pre .0 .0, c .before .before .before .before .before .before .before .pre .0 .1, v .0, v .1)
+pre-trigger-requires c κs =
+    let s = c .before .before .before .before .before .before .before in
+    let v = s .pre .1 (c .before .before .before .before .if1 .left) in
+    (s .pre .0 .0, s .pre .0 .1, v .0, v .1)
 
 returns-2 : tie.Need-returns-2
 unfolding spanTo

@@ -29,7 +29,10 @@ same-word-requires-2 c κs = search needs
 
 returns-3 : tie.Need-returns-3
 unfolding readKind
-returns-3 c = rw (← c .before .before .before .before .before .before .before .length-in .ensures, c .before .before .before .before .before .before .if1 .left, ← c .before .before .before .before .same-word .ensures, c .before .before .before .if2 .left, ← c .before .same-word2 .ensures, c .if3 .taken)
+returns-3 c =
+    let d = c .before .before .before in
+    let e = d .before .before .before in
+    rw (← e .before .length-in .ensures, e .if1 .left, ← d .before .same-word .ensures, d .if2 .left, ← c .before .same-word2 .ensures, c .if3 .taken)
 
 slice-aggregate-same-word-3 : tie.Need-slice-aggregate-same-word-3
 slice-aggregate-same-word-3 c = search needs
@@ -39,11 +42,21 @@ same-word-requires-3 c κs = search needs
 
 returns-4 : tie.Need-returns-4
 unfolding readKind
-returns-4 c = rw (← c .before .before .before .before .before .before .before .before .before .before .length-in .ensures, c .before .before .before .before .before .before .before .before .before .if1 .left, ← c .before .before .before .before .before .before .before .same-word .ensures, c .before .before .before .before .before .before .if2 .left, ← c .before .before .before .before .same-word2 .ensures, c .before .before .before .if3 .left, ← c .before .same-word3 .ensures, c .if4 .taken)
+returns-4 c =
+    let b = c .before .before .before in
+    let d = b .before .before .before in
+    let e = d .before .before .before in
+    rw (← e .before .length-in .ensures, e .if1 .left, ← d .before .same-word .ensures, d .if2 .left, ← b .before .same-word2 .ensures, b .if3 .left)
+    (rw (← c .before .same-word3 .ensures, c .if4 .taken))
 
 returns-5 : tie.Need-returns-5
 unfolding readKind
-returns-5 c = rw (← c .before .before .before .before .before .before .before .before .before .before .length-in .ensures, c .before .before .before .before .before .before .before .before .before .if1 .left, ← c .before .before .before .before .before .before .before .same-word .ensures, c .before .before .before .before .before .before .if2 .left, ← c .before .before .before .before .same-word2 .ensures, c .before .before .before .if3 .left, ← c .before .same-word3 .ensures, c .if4 .left)
+returns-5 c =
+    let b = c .before .before .before in
+    let d = b .before .before .before in
+    let e = d .before .before .before in
+    rw (← e .before .length-in .ensures, e .if1 .left, ← d .before .same-word .ensures, d .if2 .left, ← b .before .same-word2 .ensures, b .if3 .left)
+    (rw (← c .before .same-word3 .ensures, c .if4 .left))
 
 pub read-kind-spec : {M : Type 1} → statement M
 read-kind-spec =

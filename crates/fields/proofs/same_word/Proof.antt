@@ -33,7 +33,11 @@ shared-slice-read-if2 : tie.Need-shared-slice-read-if2 Inv-loop μ-loop
 shared-slice-read-if2 c = search needs
 
 returns-2 : tie.Need-returns-2 Inv-loop μ-loop
-returns-2 c = rw (c .before .before .before .before .before .loop .inv .2, here (c .before .before .before .before .before .before .before .before .before .args .word .now) _ (c .before .before .before .before .loop-test .taken), here (c .before .before .before .before .before .before .before .before .before .args .field .now) (c .before .before .before .before .before .loop .i) (omega arith), ← c .before .before .small .ensures, ne-eqb _ _ (c .if2 .taken))
+returns-2 c =
+    let l = c .before .before .before .before .before in
+    let a = l .before .before .before .before .args in
+    rw (l .loop .inv .2, here (a .word .now) _ (c .before .before .before .before .loop-test .taken), here (a .field .now) (l .loop .i) (omega arith), ← c .before .before .small .ensures)
+    (rw (ne-eqb _ _ (c .if2 .taken)))
 
 add-i : tie.Need-add-i Inv-loop μ-loop
 add-i c = search needs
@@ -42,10 +46,20 @@ loop-less : tie.Need-loop-less Inv-loop μ-loop
 loop-less c = search needs
 
 loop-again : tie.Need-loop-again Inv-loop μ-loop
-loop-again c = (omega arith, c .before .before .before .before .before .loop .inv .1, rw (c .before .before .before .before .before .loop .inv .2, here (c .before .before .before .before .before .before .before .before .before .args .word .now) _ (c .before .before .before .before .loop-test .taken), here (c .before .before .before .before .before .before .before .before .before .args .field .now) (c .before .before .before .before .before .loop .i) (omega arith), ← c .before .before .small .ensures, eq-eqb _ _ (c .if2 .left)))
+loop-again c =
+    let l = c .before .before .before .before .before in
+    let a = l .before .before .before .before .args in (
+      omega arith,
+      l .loop .inv .1,
+      rw (l .loop .inv .2, here (a .word .now) _ (c .before .before .before .before .loop-test .taken), here (a .field .now) (l .loop .i) (omega arith), ← c .before .before .small .ensures)
+          (rw (eq-eqb _ _ (c .if2 .left))),
+    )
 
 returns-3 : tie.Need-returns-3 Inv-loop μ-loop
-returns-3 c = rw (c .before .loop .inv .2, done (c .before .before .before .before .before .args .word .now) (c .before .loop .i) (omega arith), done (c .before .before .before .before .before .args .field .now) (c .before .loop .i) (omega arith))
+returns-3 c =
+    let l = c .before in
+    let a = l .before .before .before .before .args in
+    rw (l .loop .inv .2, done (a .word .now) (l .loop .i) (omega arith), done (a .field .now) (l .loop .i) (omega arith))
 
 pub same-word-spec : {M : Type 1} → statement M
 same-word-spec =

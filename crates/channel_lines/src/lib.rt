@@ -11,7 +11,7 @@ use line_fields::value_of;
 use reals::Exact;
 use reals::Limit;
 ghost use mathlib.Core.Path.{_≡_};
-ghost use Rattle.reals.specs.Exact.{Sound};
+ghost use Rattle.reals.specs.Inner.{Sound};
 ghost use Rattle.line_fields.specs.Answers.{faultOf};
 ghost use Rattle.channel_lines.specs.Channels.{channelsLine, names, scale, limits, analogLine, statusLine};
 ghost use Rattle.channel_lines.specs.Answers.{channelsOf};

@@ -18,7 +18,7 @@ use Rattle.numerals.specs.Counts.{lengthIn, isDigit, numberOf, readCount}
 use Rattle.numerals.specs.Wholes.{signLength, hasMinus}
 use Rattle.fields.specs.Fields.{inRange, readCountIn, readLettered, readYear, readOneOf, digitValue, readDigitOf, readState, readSide, readQuality, readLeap, small, readKind}
 use Rattle.reals.specs.Forms.{leadingDigits, fractionLength, mantissaLength, isE, shortNumber, raisedBy, signedExponent, exponentOf, realForm, isNought, isZero, signOf, realSign, signedReal, readReal}
-use Rattle.reals.specs.Exact.{digitsOf, placesOf, exactOf, scaled, sizeLe, within, inBound, limitOf, signedLimit, readLimit, maxBelow}
+use Rattle.reals.specs.Exact.{digitsOf, decimalPlaces, exactOf, scaled, sizeLe, withinBound, inBound, limitOf, signedLimit, readLimit, maxBelow}
 use Rattle.patterns.specs.Patterns.{fitsCharacter, fitsPattern, digitsAt, between}
 use Rattle.clock.specs.Dates.{leapYear, shortMonth, monthDays, validDate, dateOf, readDate, daysOfYears, daysOfMonths, dayNumber}
 use Rattle.clock.specs.Times.{validTime, timeForm, fractionOf, timeOf, readTime, secondOfDay}
@@ -70,7 +70,7 @@ unfolding readConfig configuration scanLine scanLastLine fieldCount afterFields 
     stationLine channelsLine names scale limits analogLine statusLine frequencyLine ratesLine rateLine dateLine kindLine multiplierLine codesLine qualityLine
     textFault yearFault indexFault realFault frequencyFault aboveFault inRange readCountIn readLettered readYear readOneOf digitValue readDigitOf readState readSide readQuality readLeap small readKind
     leadingDigits fractionLength mantissaLength isE shortNumber raisedBy signedExponent exponentOf realForm isNought isZero signOf realSign signedReal readReal
-    digitsOf placesOf exactOf scaled sizeLe within inBound limitOf signedLimit readLimit maxBelow
+    digitsOf decimalPlaces exactOf scaled sizeLe withinBound inBound limitOf signedLimit readLimit maxBelow
     readDate dateOf fitsPattern fitsCharacter validDate between monthDays leapYear shortMonth digitsAt readTime timeForm validTime timeOf fractionOf
     preTrigger spanOf secondNumber dayNumber daysOfYears daysOfMonths secondOfDay
     readCode readLocalCode codeIn codeOf smallX hoursAndMinutes hoursOf minutesOf signedMinutes

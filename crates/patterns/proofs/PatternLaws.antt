@@ -20,7 +20,8 @@ use Rattle.ground.proofs.Every.{and-split, and-join}
 use Rattle.ground.proofs.Parts.{length-part-le}
 use Rattle.numerals.specs.declared.Count.{Count}
 use Rattle.numerals.specs.declared.Count.the-variants.{Is, Form}
-use Rattle.numerals.specs.Counts.{numberOf, countIn, Below}
+use Rattle.numerals.specs.Counts.{numberOf, countIn}
+use Rattle.numerals.specs.Inner.{Below}
 use Rattle.numerals.proofs.CountLaws.{number-below}
 use Rattle.patterns.specs.Patterns.{fitsCharacter, fitsPattern, digitsAt, between}
 

@@ -10,7 +10,7 @@ use Rattle.reals.specs.declared.Real.the-variants as real
 use Rattle.reals.specs.declared.Limit.{Limit}
 use Rattle.reals.specs.declared.Limit.the-variants.{Is, Form, Range}
 use Rattle.reals.specs.Forms.{leadingDigits, fractionLength, mantissaLength, isE, shortNumber, raisedBy, signedExponent, exponentOf, realForm, isNought, isZero, signOf, realSign, signedReal, readReal}
-use Rattle.reals.specs.Exact.{digitsOf, placesOf, exactOf, scaled, sizeLe, within, inBound, limitOf, signedLimit, readLimit, maxBelow}
+use Rattle.reals.specs.Exact.{digitsOf, decimalPlaces, exactOf, scaled, sizeLe, withinBound, inBound, limitOf, signedLimit, readLimit, maxBelow}
 
 -- max is below min, where both are limits
 abbrev below : Limit → Limit → Bool
@@ -28,5 +28,5 @@ unfolding
     lengthIn isDigit numberOf signLength hasMinus
     leadingDigits fractionLength mantissaLength isE shortNumber raisedBy signedExponent exponentOf realForm
     isNought isZero signOf realSign signedReal readReal
-    digitsOf placesOf exactOf scaled sizeLe within inBound limitOf signedLimit readLimit maxBelow
+    digitsOf decimalPlaces exactOf scaled sizeLe withinBound inBound limitOf signedLimit readLimit maxBelow
 examples = (refl, refl, refl)

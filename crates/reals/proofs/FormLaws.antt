@@ -13,7 +13,8 @@ use lib.ListN.{length, drop, length-drop}
 use Rattle.ground.proofs.Cases.{on-test, clash}
 use Rattle.numerals.specs.declared.Count.{Count}
 use Rattle.numerals.specs.declared.Count.the-variants.{Is, Form}
-use Rattle.numerals.specs.Counts.{lengthIn, isDigit, Below}
+use Rattle.numerals.specs.Counts.{lengthIn, isDigit}
+use Rattle.numerals.specs.Inner.{Below}
 use Rattle.numerals.specs.Wholes.{signLength, hasMinus}
 use Rattle.numerals.proofs.CountLaws.{length-bounds, number-below}
 use Rattle.reals.specs.Forms.{leadingDigits, fractionLength, mantissaLength, isE, shortNumber, raisedBy, signedExponent, exponentOf, realForm}

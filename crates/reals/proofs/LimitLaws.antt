@@ -20,7 +20,8 @@ use Rattle.numerals.proofs.CountLaws.{digit-bounds, length-bounds}
 use Rattle.reals.specs.declared.Exact.{Exact}
 use Rattle.reals.specs.declared.Limit.the-variants.{Is, Form, Range}
 use Rattle.reals.specs.Forms.{leadingDigits, mantissaLength, realForm}
-use Rattle.reals.specs.Exact.{Sound, digitsOf, placesOf, exactOf, within, inBound, limitFrom, limitOf, signedLimit, readLimit}
+use Rattle.reals.specs.Exact.{digitsOf, decimalPlaces, exactOf, withinBound, inBound, limitFrom, limitOf, signedLimit, readLimit}
+use Rattle.reals.specs.Inner.{Sound}
 use Rattle.reals.proofs.FormLaws.{fraction-within, form-bounds}
 
 digits-from : (k : ℕ) (l : List ℕ) (i v : ℕ) → i + length l ≤ k → v < 10 ^ i → digitsOf v l < 10 ^ k
@@ -34,8 +35,8 @@ digits-from k (c ∷ l) i v h b =
 pub digits-small : (k : ℕ) (l : List ℕ) → length l ≤ k → digitsOf 0 l < 10 ^ k
 digits-small k l h = digits-from k l 0 0 (omega arith) (omega arith)
 
-pub places-within : (l : List ℕ) → placesOf l ≤ length l
-unfolding placesOf
+pub places-within : (l : List ℕ) → decimalPlaces l ≤ length l
+unfolding decimalPlaces
 places-within l = omega (arith, rw length-drop at (fraction-within (drop (leadingDigits l) l)))
 
 pub exact-sound : (minus : Bool) (e : ℕ) (l : List ℕ) → length l ≤ 13 → e ≤ 2099 → Sound (exactOf minus e l)
@@ -48,7 +49,7 @@ exact-sound minus e l h k = record {
 from-sound : (minus : Bool) (l : List ℕ) (k : Count) (x : Exact) → length l ≤ 13 → realForm l ≡ k → limitFrom minus l k ≡ Is x → Sound x
 unfolding inBound
 from-sound minus l (count.Is e) x h f q =
-    on-test (within (exactOf minus e l))
+    on-test (withinBound (exactOf minus e l))
     (λ t. let r : Is (exactOf minus e l) ≡ Is x = rw t at q in let s : exactOf minus e l ≡ x = cc in rw (← s) (exact-sound minus e l h (form-bounds l e f .1)))
     (λ t. let r : Range ≡ Is x = rw t at q in clash (cc))
 from-sound minus l count.Form x h f q = clash (cc)

@@ -22,17 +22,12 @@ digitsOf v [] = v
 digitsOf v (b ∷ l) = if isDigit b then digitsOf (10 * v + (b - 48)) l else digitsOf v l
 
 -- how many digits stand after the point
-unfoldable pub placesOf : List ℕ → ℕ
-placesOf l = fractionLength (drop (leadingDigits l) l) - 1
+unfoldable pub decimalPlaces : List ℕ → ℕ
+decimalPlaces l = fractionLength (drop (leadingDigits l) l) - 1
 
 -- the number of a real after its spaces and sign, whose exponent is e, 1100 up
 unfoldable pub exactOf : Bool → ℕ → List ℕ → Exact
-exactOf minus e l = record { minus = minus; digits = digitsOf 0 (take (mantissaLength l) l); scale = e - placesOf l }
-
--- at most 13 digits and a scale of at most 2100, as the number of every limit has
-pub record Sound (x : Exact) : Type 0 where
-  pub few : x .digits < 10 ^ 13
-  pub near : x .scale ≤ 2100
+exactOf minus e l = record { minus = minus; digits = digitsOf 0 (take (mantissaLength l) l); scale = e - decimalPlaces l }
 
 -- the number, 10 ^ 1100 times as large
 unfoldable pub scaled : Exact → ℤ
@@ -43,12 +38,12 @@ unfoldable pub sizeLe : ℕ → ℕ → ℕ → ℕ → Bool
 sizeLe m x n y = leb (m * 10 ^ x) (n * 10 ^ y)
 
 -- not further from zero than 3.4028235E38
-unfoldable pub within : Exact → Bool
-within x = sizeLe (x .digits) (x .scale) 34028235 (31 + 1100)
+unfoldable pub withinBound : Exact → Bool
+withinBound x = sizeLe (x .digits) (x .scale) 34028235 (31 + 1100)
 
 -- a limit, where it is within that bound
 unfoldable pub inBound : Exact → Limit
-inBound x = if within x then Is x else Range
+inBound x = if withinBound x then Is x else Range
 
 -- the limit of a real after its spaces and sign, whose form is told
 abbrev pub limitFrom : Bool → List ℕ → Count → Limit

@@ -3,9 +3,10 @@
 ghost use mathlib.Core.Path.{_≡_};
 ghost use Prim.Native.Nat.{_<_, _≤_, _*_, _^_};
 ghost use lib.ListN.{length};
-ghost use Rattle.numerals.specs.Counts.{Below};
+ghost use Rattle.numerals.specs.Inner.{Below};
 ghost use Rattle.reals.specs.Forms.{leadingDigits, fractionLength, mantissaLength, isE, shortNumber, raisedBy, signedExponent, exponentOf, realForm, isNought, isZero, signOf, realSign, signedReal, readReal};
-ghost use Rattle.reals.specs.Exact.{Sound, digitsOf, placesOf, exactOf, sizeLe, inBound, limitOf, signedLimit, readLimit, maxBelow};
+ghost use Rattle.reals.specs.Exact.{digitsOf, decimalPlaces, exactOf, sizeLe, inBound, limitOf, signedLimit, readLimit, maxBelow};
+ghost use Rattle.reals.specs.Inner.{Sound};
 use numerals::Count;
 
 // A real by its sign, or a wrong form.
@@ -265,8 +266,8 @@ fn digits_of(m: &[u8]) -> u64
 }
 
 // How many digits stand after the point.
-fn places_of(s: &[u8]) -> usize
-    ensures { λ r. ⌜ r ≡ placesOf (now (s .entry)) ⌝ }
+fn decimal_places(s: &[u8]) -> usize
+    ensures { λ r. ⌜ r ≡ decimalPlaces (now (s .entry)) ⌝ }
 {
     let n = leading_digits(s);
     let f = fraction_length(&s[n..]);
@@ -282,7 +283,7 @@ fn exact_of(minus: bool, e: u64, s: &[u8]) -> Exact
     ensures { λ r. ⌜ r ≡ exactOf minus e (now (s .entry)) ⌝ }
 {
     let m = mantissa_length(s);
-    let p = places_of(s) as u64;
+    let p = decimal_places(s) as u64;
     Exact {
         minus: minus,
         digits: digits_of(&s[..m]),

@@ -1,10 +1,10 @@
--- `places_of` meets its contract.
+-- `decimal_places` meets its contract.
 use Rattle.ground.proofs.Walk.{rest}
-use Rattle.reals.specs.Exact.{placesOf}
+use Rattle.reals.specs.Exact.{decimalPlaces}
 use Rattle.reals.proofs.FormLaws.{digits-within}
 use borrow.Author.Needs.{needs}
-use Rattle.reals.proofs.places_of.Statement.{statement}
-use Rattle.reals.proofs.places_of.Tie as tie
+use Rattle.reals.proofs.decimal_places.Statement.{statement}
+use Rattle.reals.proofs.decimal_places.Tie as tie
 
 leading-digits-requires : tie.Need-leading-digits-requires
 leading-digits-requires c κs = search needs
@@ -22,18 +22,18 @@ fraction-length-requires : tie.Need-fraction-length-requires
 fraction-length-requires c κs = search needs
 
 returns : tie.Need-returns
-unfolding placesOf
+unfolding decimalPlaces
 returns c = let f = rw rest at (c .before .fraction-length .ensures) in rw (← c .before .before .before .leading-digits .ensures, ← f, c .if1 .taken)
 
 sub-result : tie.Need-sub-result
 sub-result c = search needs
 
 returns-2 : tie.Need-returns-2
-unfolding placesOf
+unfolding decimalPlaces
 returns-2 c = let f = rw rest at (c .before .fraction-length .ensures) in rw (← c .before .before .before .leading-digits .ensures, ← f)
 
-pub places-of-spec : {M : Type 1} → statement M
-places-of-spec =
+pub decimal-places-spec : {M : Type 1} → statement M
+decimal-places-spec =
     tie.close
     (tie.spec
     leading-digits-requires

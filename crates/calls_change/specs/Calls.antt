@@ -4,7 +4,8 @@ use Prim.Native.Nat.{ℕ}
 use Rattle.ground.specs.Said.{Said, _>>=_}
 use Rattle.model.specs.declared.Refusal.{Refusal}
 use Rattle.model.specs.Kinds.{kindOf}
-use Rattle.change.specs.Change.{bytesNeeded, changeSaid}
+use Rattle.change.specs.Change.{changeSaid}
+use Rattle.change_length.specs.Needed.{bytesNeeded}
 use Rattle.answers.specs.Answers.{kindSaid, layoutBy}
 
 -- zl_length: how many bytes a change of kind needs

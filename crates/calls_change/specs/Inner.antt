@@ -5,7 +5,8 @@ use Rattle.ground.specs.Said.{Said, _>>=_}
 use Rattle.model.specs.declared.Layout.{Layout}
 use Rattle.model.specs.declared.Refusal.{Refusal}
 use Rattle.model.specs.Kinds.{kindOf}
-use Rattle.change.specs.Change.{bytesNeeded, changeSaid}
+use Rattle.change.specs.Change.{changeSaid}
+use Rattle.change_length.specs.Needed.{bytesNeeded}
 use Rattle.answers.specs.Answers.{kindSaid}
 
 -- how many bytes a change to a kind needs, by the kind's number

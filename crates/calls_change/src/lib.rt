@@ -16,7 +16,7 @@ fn needed_in(layout: Layout, data: &[u8], new_kind: u32) -> zl_answer
     ensures { λ r. ⌜ r ≡ told (neededIn layout (now («data» .entry)) «new_kind») ⌝ }
 {
     match Kind::of(new_kind) {
-        KindNo::Is(k) => answers::counted(change::bytes_needed(layout, data, k)),
+        KindNo::Is(k) => answers::counted(change_length::bytes_needed(layout, data, k)),
         KindNo::None => answers::no(model::refused(10, 0, 0)),
     }
 }

@@ -42,8 +42,9 @@ use Rattle.config.specs.Config.{noConfig, configAnswer, configuration, readConf
 use Rattle.row_bytes.specs.Rows.{bytesOf}
 use Rattle.data.specs.Files.{fileFine, rowAt, hasRow, misfitOf, checkFile, rowAnswer, showRow, writeSaid}
 use Rattle.data.proofs.Laws.{row-told, writable}
-use Rattle.change.specs.Change.{fitRows, changed, bytesNeeded, changeSaid}
-use Rattle.change.proofs.WriteLaws.{change-needs, ready}
+use Rattle.change.specs.Change.{changeSaid}
+use Rattle.change_length.specs.Needed.{fitRows, changed, bytesNeeded}
+use Rattle.change.proofs.ChangeLaws.{change-needs, ready}
 use Rattle.row_places.specs.Rows.{placesOf, rowPlaces, unfit, rowOfPlaces}
 use Rattle.config_places.specs.Configs.{configPlaces}
 use Rattle.config_places.proofs.ConfigLaws.{config-places}

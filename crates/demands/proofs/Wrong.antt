@@ -61,8 +61,10 @@ use Rattle.ascii_file.specs.Files as ascii_file
 use Rattle.ascii_file.specs.Files.{checkRow, isEnding, checkText, firstLine, afterRows, textRow, mark}
 use Rattle.row_bytes.specs.Rows.{bytesOf}
 use Rattle.data.specs.Files.{fileFine, rowAt, hasRow, misfitOf, checkFile, showRow, writeSaid, endMark, fileOf}
-use Rattle.change.specs.Change.{fitRow, fitRows, bytesNeeded, changed, changeSaid}
-use Rattle.change.proofs.WriteLaws.{needed-length, change-needs}
+use Rattle.change.specs.Change.{changeSaid}
+use Rattle.change_length.specs.Needed.{fitRow, fitRows, bytesNeeded, changed}
+use Rattle.change.proofs.ChangeLaws.{change-needs}
+use Rattle.change_length.proofs.LengthLaws.{needed-length}
 use Rattle.demands.proofs.Calls.{never-17}
 use Rattle.demands.proofs.Recording.{recordingWith, recording, recording-accepted, recording-code}
 use Rattle.demands.proofs.Vectors.{layout, row, of-t1, t1, t2, t3, vectors}

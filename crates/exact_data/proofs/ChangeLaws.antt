@@ -37,7 +37,8 @@ use Rattle.row_bytes.proofs.KindLaws.{by-kind}
 use Rattle.data.specs.Files.{fileFine, rowAt, misfitOf, endMark, fileOf}
 use Rattle.data.proofs.FileLaws as files
 use Rattle.data.proofs.FileLaws.{Writes}
-use Rattle.change.specs.Change.{fitRows, changed, changeSaid}
+use Rattle.change.specs.Change.{changeSaid}
+use Rattle.change_length.specs.Needed.{fitRows, changed}
 use Rattle.paper.specs.Data.{InRange, sampleOf, TextFile, DataFile}
 use Rattle.paper.specs.Written.{EndingOf, PlainText, Restored, AllInRange, FirstOutside}
 use Rattle.exact_data.proofs.NumberLaws.{range-exactly}

@@ -1,4 +1,4 @@
--- `change::settle_binary` meets its contract: the rows fit, and their number times the row's size.
+-- `change_length::settle_binary` meets its contract: the rows fit, and their number times the row's size.
 use mathlib.Core.Path.{_≡_, sym, _∙_}
 use Prim.Native.Nat.{_*_, _<_, _^_}
 use native.Mathlib.Omega.{arith}
@@ -7,12 +7,12 @@ use Rattle.binary_row.specs.Rows.{rowSize}
 use Rattle.binary_file.proofs.Laws.{whole}
 use Rattle.recode.specs.Inner.{fitFrom}
 use Rattle.model.specs.Layouts.{inKind}
-use Rattle.change.specs.Inner.{settleBinary}
+use Rattle.change_length.specs.Inner.{settleBinary}
 use Rattle.model.proofs.LayoutLaws.{sized-in}
-use Rattle.change.proofs.BinaryLaws.{few-binary}
+use Rattle.change_length.proofs.BinaryLaws.{few-binary}
 use borrow.Author.Needs.{needs}
-use Rattle.change.proofs.settle_binary.Statement.{statement}
-use Rattle.change.proofs.settle_binary.Tie as tie
+use Rattle.change_length.proofs.settle_binary.Statement.{statement}
+use Rattle.change_length.proofs.settle_binary.Tie as tie
 
 all-fit-requires : tie.Need-all-fit-requires
 all-fit-requires c κs = (c .before .pre .0, whole (c .before .args .layout) (c .before .args .«data» .now) (c .before .pre .1) .0)

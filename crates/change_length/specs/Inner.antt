@@ -1,5 +1,5 @@
--- NOTHING TO BELIEVE HERE: what each private function of the code says. `decided` is what `bytesNeeded` says of a layout within the sizes (law `needed-decided`, proofs/WriteLaws.antt);
--- the laws `decided-walk` (proofs/ChangeLaws.antt) and `decided-binary` (proofs/BinaryLaws.antt) say that a walk with its tally, and a check in the bytes of a binary kind, come to just that.
+-- NOTHING TO BELIEVE HERE: what each private function of the code says. `decided` is what `bytesNeeded` says of a layout within the sizes (law `needed-decided`, proofs/LengthLaws.antt);
+-- the laws `decided-walk` (proofs/TallyLaws.antt) and `decided-binary` (proofs/BinaryLaws.antt) say that a walk with its tally, and a check in the bytes of a binary kind, come to just that.
 use mathlib.Core.Bool.{Bool, true, false, not}
 use mathlib.Core.List.{List}
 use Prim.Native.Nat.{ℕ, zero, suc, _+_, _*_, _≤_}
@@ -19,10 +19,10 @@ use Rattle.recode.specs.Inner.{fitFrom}
 use Rattle.row_bytes.specs.Rows.{byKind, bytesOf}
 use Rattle.row_bytes.specs.Inner.{lengthOf}
 use Rattle.data.specs.Files.{fileFine, rowAt, misfitOf, endMark}
-use Rattle.change.specs.declared.Tally.{Tally}
-use Rattle.change.specs.declared.Weighed.{Weighed}
-use Rattle.change.specs.declared.Weighed.the-variants as weighed
-use Rattle.change.specs.Change.{fitRows}
+use Rattle.change_length.specs.declared.Tally.{Tally}
+use Rattle.change_length.specs.declared.Weighed.{Weighed}
+use Rattle.change_length.specs.declared.Weighed.the-variants as weighed
+use Rattle.change_length.specs.Needed.{fitRows}
 
 -- how many bytes the first m rows take
 unfoldable pub rowsLength : Layout → (ℕ → Row) → ℕ → ℕ

@@ -15,7 +15,7 @@ fn copy(text: &[u8], d: &mut [u8])
     ensures { λ _. ⌜ now (d .exit) ≡ now (text .entry) ⌝ }
 {
     let mut i = 0;
-    while i < text.len() {
+    while i < d.len() {
         d[i] = text[i];
         i += 1;
     }

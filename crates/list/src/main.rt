@@ -4,7 +4,7 @@ use libc::STDERR_FILENO;
 use libc::STDOUT_FILENO;
 ghost use mathlib.Core.Path.{_≡_};
 ghost use lib.ListN.{length};
-ghost use Rattle.list.specs.Reads.{Within};
+ghost use Rattle.list.specs.Inner.{Within};
 
 // Room for one byte more than a file may have.
 const FILE_ROOM: usize = 65537;

@@ -15,6 +15,9 @@
  * No call allocates, keeps anything between calls, reads a clock or touches a file: all are reentrant, and threads may
  * call at the same time as long as what one writes is lent to no other.
  *
+ * What links: libzagalume.a alone, one object of some 45 KB of code and constants, with no writable data. It calls
+ * memcpy and memset and nothing else: no heap, no other part of a C library, no operating system.
+ *
  * Stack that a call uses, in bytes, its caller's frame included, on the largest layout (A = 96, D = 256) of every kind,
  * as tools/stack measures it:
  *
@@ -32,6 +35,9 @@
 
 #include <stddef.h>
 #include <stdint.h>
+
+/* The version of this header and its library. */
+#define ZL_VERSION "0.1.0"
 
 #ifdef __cplusplus
 extern "C" {
@@ -69,8 +75,8 @@ enum {
                                      (at max); line, field */
     ZL_REFUSED_YEAR = 8,          /* a year of four digits that is not 2013; line, field */
     ZL_REFUSED_BYTES_AFTER = 9,   /* bytes after the last line; the line after it, 0 */
-    ZL_REFUSED_LAYOUT = 10,       /* the layout is out of the sizes, or there is no such kind, the new kind of a change
-                                     too; a row to write has too few places; no such refusal; 0, 0 */
+    ZL_REFUSED_LAYOUT = 10,       /* the layout is outside the limits, or there is no such kind, the new kind of a
+                                     change too; a row to write has too few places; no such refusal; 0, 0 */
     ZL_REFUSED_FILE_LENGTH = 11,  /* wrong length of the data file; binary kinds 0, 0; ASCII row, 0 */
     ZL_REFUSED_ROW_NUMBER = 12,   /* a row's number is not the row's; row, 1 */
     ZL_REFUSED_PADDING = 13,      /* a padding bit is set; row, 0 */
@@ -81,7 +87,7 @@ enum {
     ZL_REFUSED_NO_ROOM = 17       /* what is lent to be written is too short; 0, 0 */
 };
 
-/* The sizes of the house. */
+/* The limits. */
 enum {
     ZL_MOST_CONFIG_BYTES = 65536,
     ZL_MOST_ANALOGS = 96,     /* A, analog channels, from 0 */
@@ -189,6 +195,81 @@ zl_answer zl_change(uint32_t a, uint32_t d, uint32_t rows, uint32_t kind, const 
  *   No:     10 for a number that has no meaning (0 too); 17, where out is too short.
  */
 zl_answer zl_reason(uint32_t number, uint8_t *out, size_t out_length);
+
+/* The same meaning as a constant C string; an empty one where the number has none (0 too). tests/calls.c holds it to zl_reason. */
+static inline const char *zl_reason_text(uint32_t number)
+{
+    switch (number) {
+    case ZL_REFUSED_CONFIG_SIZE: return "the configuration has more than 65,536 bytes";
+    case ZL_REFUSED_EARLY_END: return "the file ends before or inside a line";
+    case ZL_REFUSED_BYTE: return "a byte outside 32 to 126 before the end of the line";
+    case ZL_REFUSED_FIELD_COUNT: return "wrong number of fields";
+    case ZL_REFUSED_FORM: return "wrong length or form of a field";
+    case ZL_REFUSED_VALUE: return "a number, date, kind or code that is not allowed";
+    case ZL_REFUSED_AGREEMENT: return "a total, index, last row or maximum that does not agree";
+    case ZL_REFUSED_YEAR: return "an edition that is not 2013";
+    case ZL_REFUSED_BYTES_AFTER: return "bytes after the last line";
+    case ZL_REFUSED_LAYOUT: return "sizes or kind not allowed";
+    case ZL_REFUSED_FILE_LENGTH: return "wrong length of the file";
+    case ZL_REFUSED_ROW_NUMBER: return "a row number that is not the row's";
+    case ZL_REFUSED_PADDING: return "a padding bit is set";
+    case ZL_REFUSED_TEXT_ROW: return "a text row or field is bad";
+    case ZL_REFUSED_NO_SUCH_ROW: return "no such row";
+    case ZL_REFUSED_MISFIT: return "a number does not fit its field";
+    case ZL_REFUSED_NO_ROOM: return "no room";
+    default: return "";
+    }
+}
+
+/*
+ * The layout as one value, and the calls that ask for a layout in this form, so that a and d can't be exchanged. A call
+ * whose name ends in _in hands its numbers on to the call of that name without _in, and answers and writes as that does.
+ */
+typedef struct zl_layout {
+    uint32_t a;    /* analog channels */
+    uint32_t d;    /* status channels */
+    uint32_t rows;
+    uint32_t kind; /* ZL_ASCII, ZL_BINARY or ZL_BINARY32 */
+} zl_layout;
+
+/* The layout in the places that zl_config wrote with a yes. */
+static inline zl_layout zl_layout_of(const int64_t *shown)
+{
+    zl_layout layout;
+    layout.a = (uint32_t)shown[ZL_SHOWN_ANALOGS];
+    layout.d = (uint32_t)shown[ZL_SHOWN_STATUSES];
+    layout.rows = (uint32_t)shown[ZL_SHOWN_ROWS];
+    layout.kind = (uint32_t)shown[ZL_SHOWN_KIND];
+    return layout;
+}
+
+static inline zl_answer zl_check_in(zl_layout layout, const uint8_t *data, size_t data_length)
+{
+    return zl_check(layout.a, layout.d, layout.rows, layout.kind, data, data_length);
+}
+
+static inline zl_answer zl_row_in(zl_layout layout, const uint8_t *data, size_t data_length, uint32_t n, int64_t *shown,
+                                  size_t shown_length)
+{
+    return zl_row(layout.a, layout.d, layout.rows, layout.kind, data, data_length, n, shown, shown_length);
+}
+
+static inline zl_answer zl_write_row_in(zl_layout layout, uint32_t n, const int64_t *row, size_t row_length, uint8_t *out,
+                                        size_t out_length)
+{
+    return zl_write_row(layout.a, layout.d, layout.rows, layout.kind, n, row, row_length, out, out_length);
+}
+
+static inline zl_answer zl_length_in(zl_layout layout, const uint8_t *data, size_t data_length, uint32_t new_kind)
+{
+    return zl_length(layout.a, layout.d, layout.rows, layout.kind, data, data_length, new_kind);
+}
+
+static inline zl_answer zl_change_in(zl_layout layout, const uint8_t *data, size_t data_length, uint32_t new_kind,
+                                     uint8_t *out, size_t out_length)
+{
+    return zl_change(layout.a, layout.d, layout.rows, layout.kind, data, data_length, new_kind, out, out_length);
+}
 
 #ifdef __cplusplus
 }

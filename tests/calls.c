@@ -1,5 +1,5 @@
 /* Calls every function of zagalume.h, as C and as C++: what is answered, and that nothing changes but what an answer reports.
- * One recording, A = 1, D = 1, two rows. Prints what differs and then how many answers were held. */
+ * One recording, A = 1, D = 1, two rows; for the forms that take a layout A = 2, D = 1, one row. Prints what differs and then how many answers were held. */
 #include "zagalume.h"
 
 #include <stdio.h>
@@ -118,15 +118,53 @@ static void files(void)
     judge_no("a change to no kind", zl_change(1, 1, 2, ZL_BINARY, binary, 24, 3, out, BYTES), ZL_REFUSED_LAYOUT, 0, 0);
 }
 
+/* What is shown becomes a layout number by number, and each form hands its arguments on: no two of them can be exchanged unseen. */
+static void layouts(void)
+{
+    static const char text[] = "1,5,-3,300,1\r\n\x1A\r\n";
+    static const uint8_t binary32[] = {1, 0, 0, 0, 5, 0, 0, 0, 0xFD, 0xFF, 0xFF, 0xFF, 0x2C, 1, 0, 0, 1, 0};
+    static const int64_t row[] = {5, -3, 300, 1};
+    const uint8_t *data = bytes_of(text);
+    size_t length = sizeof text - 1;
+    for (int k = 0; k < PLACES; k++)
+        shown[k] = k;
+    zl_layout layout = zl_layout_of(shown);
+    judge("a layout", layout.a == ZL_SHOWN_ANALOGS && layout.d == ZL_SHOWN_STATUSES && layout.rows == ZL_SHOWN_ROWS && layout.kind == ZL_SHOWN_KIND);
+    layout.a = 2, layout.d = 1, layout.rows = 1, layout.kind = ZL_ASCII;
+    judge_yes("a check in a layout", zl_check_in(layout, data, length), NULL, 0, 0);
+    judge_no("a byte too few in a layout", zl_check_in(layout, data, length - 1), ZL_REFUSED_FILE_LENGTH, 2, 0);
+    zl_answer answer = zl_row_in(layout, data, length, 1, shown, PLACES);
+    judge("what a row in a layout shows", memcmp(shown, row, sizeof row) == 0 && untouched(0, 4));
+    judge_yes("a row in a layout", answer, NULL, 0, 0);
+    judge_no("row 2 in a layout", zl_row_in(layout, data, length, 2, shown, PLACES), ZL_REFUSED_NO_SUCH_ROW, 0, 0);
+    judge_no("three places in a layout", zl_row_in(layout, data, length, 1, shown, 3), ZL_REFUSED_NO_ROOM, 0, 0);
+    judge_yes("a row written in a layout", zl_write_row_in(layout, 1, row, 4, out, 14), text, 14, 0);
+    judge_no("a row of three places in a layout", zl_write_row_in(layout, 1, row, 3, out, BYTES), ZL_REFUSED_LAYOUT, 0, 0);
+    judge_no("13 bytes in a layout", zl_write_row_in(layout, 1, row, 4, out, 13), ZL_REFUSED_NO_ROOM, 0, 0);
+    judge_yes("the length in a layout", zl_length_in(layout, data, length, ZL_BINARY32), NULL, 18, 0);
+    judge_yes("a change in a layout", zl_change_in(layout, data, length, ZL_BINARY32, out, 18), binary32, 18, 0);
+    judge_no("17 bytes in a layout", zl_change_in(layout, data, length, ZL_BINARY32, out, 17), ZL_REFUSED_NO_ROOM, 0, 0);
+}
+
+/* Whether the constant text of a number is what zl_reason wrote. */
+static int same_text(uint32_t number, zl_answer answer)
+{
+    const char *text = zl_reason_text(number);
+    return strlen(text) == answer.length && memcmp(text, out, answer.length) == 0;
+}
+
 static void reasons(void)
 {
     for (uint32_t number = 0; number <= 18; number++) {
         zl_answer answer = zl_reason(number, out, ZL_MOST_REASON_BYTES);
+        int same = same_text(number, answer);
         if (number == 0 || number == 18)
             judge_no("a number with no meaning", answer, ZL_REFUSED_LAYOUT, 0, 0);
         else
             judge("a meaning", answer.number == ZL_YES && answer.length > 0 && untouched(answer.length, 0));
+        judge("a constant text", same);
     }
+    judge("the text of no number", zl_reason_text(UINT32_MAX)[0] == 0);
     judge_no("a meaning with no room", zl_reason(ZL_REFUSED_NO_ROOM, NULL, 0), ZL_REFUSED_NO_ROOM, 0, 0);
 }
 
@@ -136,6 +174,7 @@ int main(void)
     configurations();
     rows();
     files();
+    layouts();
     reasons();
     printf("%d answers, %d differ\n", held, differ);
     return differ == 0 ? 0 : 1;

@@ -1,8 +1,7 @@
-/* change_kind CONFIGURATION DATA KIND OUT: asks how long the data file is in another kind (ASCII, binary or binary32),
- * changes it, and writes the new data file. The configuration stays as it is: its kind's line is still to be changed. */
+/* change_kind CONFIGURATION DATA KIND OUT: changes the data file to another kind (ASCII, binary or binary32) and writes the
+ * new data file. The configuration stays as it is: its kind's line is still to be changed. */
 #include "recording.h"
 
-#include <inttypes.h>
 #include <stdio.h>
 #include <stdlib.h>
 #include <string.h>
@@ -16,53 +15,38 @@ static uint32_t kind_of(const char *word)
     return kind;
 }
 
-/* Writes a whole file: 1, or 0 after a line on standard error. */
-static int write_file(const char *name, const uint8_t *bytes, size_t length)
+/* Writes a data file and says how long it was and is. */
+static int write_file(const char *name, const struct recording *old, const struct recording *changed)
 {
     FILE *file = fopen(name, "wb");
-    int written = file != NULL && fwrite(bytes, 1, length, file) == length;
+    int written = file != NULL && fwrite(changed->data, 1, changed->data_length, file) == changed->data_length;
     if (file != NULL && fclose(file) != 0)
         written = 0;
-    if (!written)
+    if (!written) {
         fprintf(stderr, "%s can't be written\n", name);
-    return written;
-}
-
-/* Asks the length, lends so much room and changes: 1, or 0 after a line on standard error. */
-static int change(const struct recording *r, uint32_t new_kind, const char *out_name)
-{
-    zl_answer needed = zl_length(r->a, r->d, r->rows, r->kind, r->data, r->data_length, new_kind);
-    if (needed.number != ZL_YES) {
-        say_refusal("dat", needed);
-        return 0;
+        return TROUBLE;
     }
-    printf("%zu bytes of %s are %" PRIu32 " bytes of %s\n", r->data_length, kind_words[r->kind], needed.length,
-           kind_words[new_kind]);
-    uint8_t *out = malloc(needed.length);
-    if (out == NULL) {
-        fprintf(stderr, "there is no memory for the new file\n");
-        return 0;
-    }
-    zl_answer changed = zl_change(r->a, r->d, r->rows, r->kind, r->data, r->data_length, new_kind, out, needed.length);
-    int written = 0;
-    if (changed.number == ZL_YES)
-        written = write_file(out_name, out, changed.length);
-    else
-        say_refusal("dat", changed);
-    free(out);
-    return written;
+    printf("%zu bytes of %s are %zu bytes of %s\n", old->data_length, kind_words[old->layout.kind], changed->data_length,
+           kind_words[changed->layout.kind]);
+    return all_printed();
 }
 
 int main(int count, char **words)
 {
-    struct recording r;
-    if (count != 5) {
-        fprintf(stderr, "usage: change_kind CONFIGURATION DATA KIND OUT\n");
-        return 1;
+    struct recording r, changed;
+    uint32_t new_kind = count == 5 ? kind_of(words[3]) : 3;
+    if (new_kind == 3) {
+        fprintf(stderr, "usage: change_kind CONFIGURATION DATA KIND OUT, where KIND is ASCII, binary or binary32\n");
+        return TROUBLE;
     }
-    if (!load(words[1], words[2], &r))
-        return 1;
-    int changed = change(&r, kind_of(words[3]), words[4]);
+    int status = load(words[1], words[2], &r);
+    if (status != DONE)
+        return status;
+    status = change(&r, new_kind, &changed);
+    if (status == DONE) {
+        status = write_file(words[4], &r, &changed);
+        free(changed.data);
+    }
     free(r.data);
-    return changed ? 0 : 1;
+    return status;
 }

@@ -1,18 +1,8 @@
 /* first_row CONFIGURATION DATA: loads a recording and prints its layout and its first row, as the listing does. */
 #include "recording.h"
 
-#include <inttypes.h>
 #include <stdio.h>
 #include <stdlib.h>
-
-/* The row's number, then its places: the time, the samples and the statuses. */
-static void print_row(uint32_t n, const int64_t *row, uint32_t places)
-{
-    printf("%" PRIu32, n);
-    for (uint32_t k = 0; k < places; k++)
-        printf(" %" PRId64, row[k]);
-    printf("\n");
-}
 
 int main(int count, char **words)
 {
@@ -20,17 +10,16 @@ int main(int count, char **words)
     int64_t row[ZL_MOST_ROW_PLACES];
     if (count != 3) {
         fprintf(stderr, "usage: first_row CONFIGURATION DATA\n");
-        return 1;
+        return TROUBLE;
     }
-    if (!load(words[1], words[2], &r))
-        return 1;
-    zl_answer answer = zl_row(r.a, r.d, r.rows, r.kind, r.data, r.data_length, 1, row, ZL_MOST_ROW_PLACES);
+    int status = load(words[1], words[2], &r);
+    if (status != DONE)
+        return status;
+    zl_answer answer = zl_row_in(r.layout, r.data, r.data_length, 1, row, ZL_MOST_ROW_PLACES);
     free(r.data);
-    if (answer.number != ZL_YES) {
-        say_refusal("dat", answer);
-        return 1;
-    }
-    printf("A %" PRIu32 " D %" PRIu32 " rows %" PRIu32 " %s\n", r.a, r.d, r.rows, kind_words[r.kind]);
-    print_row(1, row, 1 + r.a + r.d);
-    return 0;
+    if (answer.number != ZL_YES)
+        return say_refusal("dat", answer);
+    print_layout(r.layout);
+    print_row(r.layout, 1, row);
+    return all_printed();
 }

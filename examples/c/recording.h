@@ -1,22 +1,44 @@
-/* What the examples share: a recording, loaded from its two files, and refusals said in words. */
+/* What the examples share: a recording, loaded from its two files, changed to another kind and printed as the listing does,
+ * and refusals said in words. */
 #ifndef RECORDING_H
 #define RECORDING_H
 
 #include "zagalume.h"
 
+/* How an example ends, as diff and grep do: all was done; the recording is refused; a file can't be read or written, or the
+ * arguments are wrong. The last two come with a line on standard error. */
+enum {
+    DONE = 0,
+    REFUSED = 1,
+    TROUBLE = 2
+};
+
 struct recording {
-    uint32_t a, d, rows, kind; /* the layout, as the configuration says */
-    uint8_t *data;             /* the bytes of the data file, freed by whoever loaded it */
+    zl_layout layout;
+    uint8_t *data; /* the bytes of the data file, freed by whoever has the recording */
     size_t data_length;
 };
 
 /* The kinds' words, by number. */
 extern const char *const kind_words[3];
 
-/* Loads a recording: 1, or 0 after a line on standard error that says why not. The data file is not checked yet. */
+/* Loads a recording. The data file is not checked yet. */
 int load(const char *cfg_name, const char *dat_name, struct recording *recording);
 
-/* Says a refusal on standard error: which file, number, place and meaning. */
-void say_refusal(const char *file, zl_answer answer);
+/* The recording in another kind, or the same: asks how long its data file is, lends so much room and changes it. */
+int change(const struct recording *recording, uint32_t new_kind, struct recording *changed);
+
+/* Prints the first line of a listing. */
+void print_layout(zl_layout layout);
+
+/* Prints a row as a line of the listing: its number, then its places, the time, the samples and the statuses. */
+void print_row(zl_layout layout, uint32_t n, const int64_t *row);
+
+/* DONE where all that was printed has gone out, else TROUBLE. */
+int all_printed(void);
+
+/* Says a refusal on standard error, as the listing prints it and with its meaning, and answers REFUSED: which file,
+ * number, line or row, field. */
+int say_refusal(const char *file, zl_answer answer);
 
 #endif

@@ -1,35 +1,32 @@
-//! change_kind CONFIGURATION DATA KIND OUT: asks how long the data file is in another kind (ASCII, binary or binary32), changes it, and writes the new data file.
+//! change_kind CONFIGURATION DATA KIND OUT: changes the data file to another kind (ASCII, binary or binary32) and writes the new data file.
 //! The configuration stays as it is: its kind's line is still to be changed.
 
+mod recording;
+
+use recording::{load, run, Failure};
+use std::ffi::OsString;
+use std::fs;
+use std::io::{self, Write};
 use std::process::ExitCode;
-use std::{env, fs};
 use zagalume::Kind;
 
-fn change_kind(cfg: &str, dat: &str, word: &str, out: &str) -> Result<String, String> {
-    let read = |name: &str| fs::read(name).map_err(|error| format!("{name}: {error}"));
-    let refused = |refusal: zagalume::Refusal| format!("{dat}: {refusal}");
-    let new_kind = Kind::of_word(word).ok_or(format!("{word} is no kind: ASCII, binary or binary32"))?;
-    let layout = zagalume::read_config(&read(cfg)?).map_err(|refusal| format!("{cfg}: {refusal}"))?.layout();
-    let data = read(dat)?;
-    let needed = zagalume::bytes_needed(layout, &data, new_kind).map_err(refused)?;
-    let mut changed = vec![0; needed];
-    zagalume::change_into(layout, &data, new_kind, &mut changed).map_err(refused)?;
-    fs::write(out, &changed).map_err(|error| format!("{out}: {error}"))?;
-    Ok(format!("{} bytes of {} are {needed} bytes of {new_kind}", data.len(), layout.kind))
+const USAGE: &str = "usage: change_kind CONFIGURATION DATA KIND OUT, where KIND is ASCII, binary or binary32";
+
+fn change_kind(words: &[OsString]) -> Result<(), Failure> {
+    let usage = || Failure::Trouble(USAGE.to_string());
+    let [cfg, dat, word, out] = words else {
+        return Err(usage());
+    };
+    let new_kind = word.to_str().and_then(Kind::of_word).ok_or_else(usage)?;
+    let recording = load(cfg, dat)?;
+    let changed = zagalume::change(recording.layout, &recording.data, new_kind).map_err(Failure::DataFile)?;
+    fs::write(out, &changed)
+        .map_err(|error| Failure::Trouble(format!("{} can't be written: {error}", out.to_string_lossy())))?;
+    let (old, kind, new) = (recording.data.len(), recording.layout.kind, changed.len());
+    writeln!(io::stdout(), "{old} bytes of {kind} are {new} bytes of {new_kind}")?;
+    Ok(())
 }
 
 fn main() -> ExitCode {
-    let words: Vec<String> = env::args().skip(1).collect();
-    let [cfg, dat, word, out] = words.as_slice() else {
-        eprintln!("usage: change_kind CONFIGURATION DATA KIND OUT");
-        return ExitCode::FAILURE;
-    };
-    match change_kind(cfg, dat, word, out) {
-        Ok(text) => println!("{text}"),
-        Err(why) => {
-            eprintln!("{why}");
-            return ExitCode::FAILURE;
-        }
-    }
-    ExitCode::SUCCESS
+    run(change_kind)
 }

@@ -1,5 +1,5 @@
 -- Laws of the size of a row.
---     samples-le, size-le       what a layout within the sizes of the house can take
+--     samples-le, size-le       what a layout within the limits can take
 --     sizes                     the size of a row, as a sum
 --     samples-length, words-length     the samples and the status words of bytes that are a row
 -- Assumes nothing.

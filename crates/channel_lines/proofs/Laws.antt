@@ -1,5 +1,5 @@
 -- Laws of the line of counts.
---     channels-said      A and D are within the sizes of the house, and there is a channel
+--     channels-said      A and D are within the limits, and there is a channel
 --     channels-le        so they are with the zeros beside a refusal
 -- Assumes nothing.
 use mathlib.Core.Path.{_≡_, refl}

@@ -222,7 +222,7 @@ as-the-question l s k room r =
     go (refuses q) e = let w : q ≡ r = cc e in inl (ap refuses w)
 
 -- The calls refuse only so
--- the layout is within the sizes of the house
+-- the layout is within the limits
 sized-only : (l : Layout) → RefusesOnly (PlacedTo 16) (must (isSized l) (refused 10 0 0))
 sized-only l = only-must (PlacedTo 16) (isSized l) (refused 10 0 0) (λ e. (sizes-or-kind, lit≤ tt))
 

@@ -7,7 +7,7 @@
 --     config-exactly       the bytes s are accepted and show c exactly when they are a configuration that shows c
 --     config-refused       they are refused, with zeros beside the refusal, exactly when they are none
 --     one-config           a configuration shows one thing
---     sized-config         a configuration's layout is within the sizes of the house
+--     sized-config         a configuration's layout is within the limits
 -- Assumes nothing.
 use mathlib.Core.Path.{_≡_, refl, sym, ap, subst, _∙_}
 use mathlib.Core.Logic.{_↔_, _⊎_, inl, inr}

@@ -29,7 +29,7 @@ use Rattle.model.specs.declared.Layout.{Layout}
 use Rattle.model.specs.declared.Row.{Row}
 use Rattle.model.specs.Kinds.{fitsKind}
 use Rattle.model.specs.Layouts.{Sized}
-use Rattle.model.specs.Rows.{trimmed}
+use Rattle.model.specs.Rows.{latestTime, trimmed}
 use Rattle.ascii_row.specs.Fields.{readTime, readSample, isStatus, timeIn, sampleIn, statusIn}
 use Rattle.ascii_row.specs.Rows.{checkLine, sampleAt, statusAt, rowOf}
 use Rattle.ascii_row.proofs.LineLaws.{line-is, sample-at, status-at}
@@ -45,7 +45,7 @@ pub record Fits (l : Layout) (r : Row) : Type 0 where
 
 pub time-back : (v : ℕ) → v < 2 ^ 32 → readTime (decimal v) ≡ count.Is v
 unfolding readTime
-time-back v h = rw (count-decimal 1 13 v (length-decimal v) (omega (arith, decimal-short v h)), le-leb v 4294967295 (omega arith))
+time-back v h = rw (count-decimal 1 13 v (length-decimal v) (omega (arith, decimal-short v h)), le-leb v latestTime (omega arith))
 
 pub sample-back : (z : ℤ) → fitsKind Ascii z ≡ true → readSample (plain z) ≡ whole.Is z
 unfolding readSample

@@ -23,6 +23,7 @@ use Rattle.numerals.specs.Counts.{readCount}
 use Rattle.numerals.specs.Wholes.{readWhole}
 use Rattle.model.specs.declared.Kind.the-variants.{Ascii}
 use Rattle.model.specs.Kinds.{fitsKind}
+use Rattle.model.specs.Rows.{latestTime}
 use Rattle.ascii_row.specs.Fields.{atMost, inRange, readTime, readSample, isStatus, isCount, countIn, isWhole, wholeIn, timeIn, sampleIn}
 
 most-told : (m : ℕ) (k : Count) (v : ℕ) → atMost m k ≡ count.Is v → (k ≡ count.Is v) × (v ≤ m)
@@ -34,7 +35,7 @@ most-told m count.Form v e = let s : v ≡ m = cc in (cc, omega arith)
 
 pub time-told : (f : List ℕ) (v : ℕ) → readTime f ≡ count.Is v → (readCount 1 13 f ≡ count.Is v) × (v < 2 ^ 32)
 unfolding readTime
-time-told f v e = let t = most-told 4294967295 (readCount 1 13 f) v e in (t .0, omega arith)
+time-told f v e = let t = most-told latestTime (readCount 1 13 f) v e in (t .0, omega arith)
 
 count-below : (m : ℕ) (k : Count) → 1 ≤ m → ((v : ℕ) → k ≡ count.Is v → v < m) → countIn k < m
 count-below m (count.Is v) h f = f v refl
@@ -80,9 +81,9 @@ pub sample-read : (f : List ℕ) → isWhole (readSample f) ≡ true → readWho
 unfolding sampleIn
 sample-read f h = sample-told f (sampleIn f) (whole-read (readSample f) h) .0
 
-pub time-fine : (f : List ℕ) (v : ℕ) → readCount 1 13 f ≡ count.Is v → v ≤ 4294967295 → isCount (readTime f) ≡ true
+pub time-fine : (f : List ℕ) (v : ℕ) → readCount 1 13 f ≡ count.Is v → v ≤ latestTime → isCount (readTime f) ≡ true
 unfolding readTime
-time-fine f v e h = rw (e, le-leb v 4294967295 h)
+time-fine f v e h = rw (e, le-leb v latestTime h)
 
 pub sample-fine : (f : List ℕ) (z : ℤ) → readWhole f ≡ whole.Is z → fitsKind Ascii z ≡ true → isWhole (readSample f) ≡ true
 unfolding readSample

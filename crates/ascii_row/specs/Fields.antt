@@ -14,15 +14,16 @@ use Rattle.numerals.specs.Counts.{readCount}
 use Rattle.numerals.specs.Wholes.{readWhole}
 use Rattle.model.specs.declared.Kind.the-variants.{Ascii}
 use Rattle.model.specs.Kinds.{fitsKind}
+use Rattle.model.specs.Rows.{latestTime}
 
 -- a count of at most so much; a larger one is bad
 abbrev pub atMost : ℕ → Count → Count
 atMost most (count.Is v) = if leb v most then count.Is v else count.Form
 atMost most count.Form = count.Form
 
--- a timestamp: 1 to 13 digits, at most 4,294,967,295
+-- a timestamp: 1 to 13 digits, no later than the latest
 unfoldable pub readTime : List ℕ → Count
-readTime f = atMost 4294967295 (readCount 1 13 f)
+readTime f = atMost latestTime (readCount 1 13 f)
 
 -- a whole number within the range of a text's samples; another is bad
 abbrev pub inRange : Whole → Whole

@@ -33,7 +33,7 @@ use Rattle.model.specs.declared.Kind.the-variants.{Ascii}
 use Rattle.model.specs.declared.Layout.{Layout}
 use Rattle.model.specs.declared.Row.{Row}
 use Rattle.model.specs.Refusals.{refused}
-use Rattle.model.specs.Rows.{trimmed}
+use Rattle.model.specs.Rows.{latestTime, trimmed}
 use Rattle.ascii_row.specs.Fields.{readTime, readSample, timeIn, sampleIn, statusIn}
 use Rattle.ascii_row.specs.Rows.{fieldsOf, checkLine, sampleAt, statusAt, rowOf}
 use Rattle.ascii_row.proofs.FieldLaws.{time-below, time-read, time-fine, sample-fits, sample-read, sample-fine}
@@ -57,9 +57,9 @@ status-char true = refl
 status-char false = refl
 
 -- what a field says is what the row has
-time-of : (f : List ℕ) (v : ℕ) → CountField 13 v f → v ≤ 4294967295 → timeIn f ≡ v
+time-of : (f : List ℕ) (v : ℕ) → CountField 13 v f → v ≤ latestTime → timeIn f ≡ v
 unfolding timeIn readTime
-time-of f v c h = rw (count-exactly 13 v f .1 c, le-leb v 4294967295 h)
+time-of f v c h = rw (count-exactly 13 v f .1 c, le-leb v latestTime h)
 
 sample-of : (f : List ℕ) (z : ℤ) → SampleField z f → sampleIn f ≡ z
 unfolding sampleIn readSample

@@ -1,5 +1,6 @@
 -- `ascii_row::read_time` meets its contract.
 use Rattle.ascii_row.specs.Fields.{readTime}
+use Rattle.model.specs.Rows.{latestTime}
 use borrow.Author.Tests.{lt-leb, le-leb}
 use borrow.Author.Needs.{needs}
 use Rattle.ascii_row.proofs.read_time.Statement.{statement}
@@ -13,14 +14,14 @@ enum-known-v c = search needs
 
 returns : tie.Need-returns
 unfolding readTime
-returns c = rw (← c .before .before .before .before .read-count .ensures, c .before .before .v .given .1, lt-leb _ 4294967295 (c .if1 .taken))
+returns c = rw (← c .before .before .before .before .read-count .ensures, c .before .before .v .given .1, lt-leb _ latestTime (c .if1 .taken))
 
 enum-told : tie.Need-enum-told
 enum-told c = search needs
 
 returns-2 : tie.Need-returns-2
 unfolding readTime
-returns-2 c = rw (← c .before .before .before .before .read-count .ensures, c .before .before .v .given .1, le-leb _ 4294967295 (c .if1 .left))
+returns-2 c = rw (← c .before .before .before .before .read-count .ensures, c .before .before .v .given .1, le-leb _ latestTime (c .if1 .left))
 
 returns-3 : tie.Need-returns-3
 unfolding readTime

@@ -1,5 +1,4 @@
 -- Laws of plain files: what is written is accepted and reads back, and a text's rows can be written.
---     row-next                           row i + 1 is row i of what follows the first
 --     rows-front                         rows that are written from row n on, the first and the others
 --     text-accepted, text-reads-back     a plain file is accepted, and shows each row as it was written, with its places past A and D zero
 --     row-fits, text-trimmed             a row of a text, accepted or not, can be written, and has its places past A and D zero
@@ -10,7 +9,6 @@ use Prim.Native.Nat.{ℕ, zero, suc, _+_, _^_, _<_, _≤_}
 use native.Mathlib.Nat.{zero-add}
 use native.Mathlib.Numerals.{add-one}
 use native.Mathlib.Omega.{arith}
-use lib.ListN.{drop}
 use lib.Seq.{drop-at}
 use Rattle.ground.specs.Said.{says}
 use Rattle.ground.specs.Tables.{cat}
@@ -23,14 +21,11 @@ use Rattle.model.specs.Rows.{trimmed}
 use Rattle.ascii_row.specs.Rows.{rowOf}
 use Rattle.ascii_row.proofs.FieldLaws.{time-below, sample-fits}
 use Rattle.ascii_row.proofs.LineLaws.{sample-there, row-trimmed}
-use Rattle.ascii_plain.specs.Rows.{textOf, textLength}
+use Rattle.ascii_plain.specs.Rows.{textOf}
+use Rattle.ascii_plain.specs.Inner.{textLength}
 use Rattle.ascii_plain.proofs.LengthLaws.{length-text}
-use Rattle.ascii_file.specs.Files.{scanRow, isEnding, checkRows, checkText, lineTaken, firstLine, afterRows, textRow, mark, textFile}
+use Rattle.ascii_file.specs.Files.{isEnding, checkRows, checkText, firstLine, afterRows, textRow, mark, textFile}
 use Rattle.ascii_file.proofs.RoundLaws.{Fits, line-back, row-checked, row-line, row-rest}
-
-pub row-next : (l : Layout) (i : ℕ) (s : List ℕ) → textRow l (i + 1) s ≡ textRow l i (drop (lineTaken (scanRow s)) s)
-unfolding textRow afterRows
-row-next l i s = rw add-one
 
 pub rows-front : (l : Layout) (r : ℕ → Row) (n m : ℕ) (end : List ℕ)
     → cat (λ i. textOf l (i + n) (r i)) (suc m) ++ end ≡ textOf l n (r 0) ++ (cat (λ i. textOf l (i + (n + 1)) (r (i + 1))) m ++ end)

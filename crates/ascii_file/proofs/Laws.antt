@@ -25,7 +25,8 @@ use Rattle.model.specs.declared.Refusal.{Refusal}
 use Rattle.ascii_row.specs.Rows.{checkLine}
 use Rattle.ascii_walk.specs.Inner.{RowThere}
 use Rattle.ascii_file.specs.declared.Checked.the-variants.{Takes, No}
-use Rattle.ascii_file.specs.Files.{scanRow, found, checkRow, isEnding, checkRows, checkedOf, lineLength, lineTaken, afterRows}
+use Rattle.ascii_file.specs.Files.{scanRow, found, checkRow, isEnding, checkRows, lineLength, lineTaken, afterRows}
+use Rattle.ascii_file.specs.Inner.{checkedOf}
 
 pub takes-told : (x : Said Refusal ℕ) (k : ℕ) → checkedOf x ≡ Takes k → x ≡ says k
 takes-told (says j) k e = cc

@@ -33,7 +33,8 @@ use Rattle.model.specs.Rows.{latestTime, trimmed}
 use Rattle.ascii_row.specs.Fields.{readTime, readSample, isStatus, timeIn, sampleIn, statusIn}
 use Rattle.ascii_row.specs.Rows.{checkLine, sampleAt, statusAt, rowOf}
 use Rattle.ascii_row.proofs.LineLaws.{line-is, sample-at, status-at}
-use Rattle.ascii_plain.specs.Rows.{statusChar, lineOf, textOf, textLength}
+use Rattle.ascii_plain.specs.Rows.{statusChar, lineOf, textOf}
+use Rattle.ascii_plain.specs.Inner.{textLength}
 use Rattle.ascii_plain.proofs.LengthLaws.{decimal-short, sample-short, text-line, line-most}
 use Rattle.ascii_plain.proofs.LineLaws.{line-bytes-plain, fields-line, number-field, time-field, sample-field, status-field}
 use Rattle.ascii_file.specs.Files.{scanRow, checkRow, lineTaken, firstLine}

@@ -15,8 +15,6 @@ use Rattle.model.specs.declared.Refusal.{Refusal}
 use Rattle.model.specs.Refusals.{refused}
 use Rattle.ascii_row.specs.Rows.{checkLine, rowOf}
 use Rattle.ascii_plain.specs.Rows.{textOf}
-use Rattle.ascii_file.specs.declared.Checked.{Checked}
-use Rattle.ascii_file.specs.declared.Checked.the-variants.{Takes, No}
 
 -- the line that a text begins with, of at most 1,880 bytes before its CR LF
 abbrev pub scanRow : List ℕ → Scanned
@@ -57,11 +55,6 @@ checkRows l s n (suc m) = do
 -- a file of text: row by row, then its end
 unfoldable pub checkText : Layout → List ℕ → Said Refusal (Unit {0})
 checkText l s = checkRows l s 1 (l .rows)
-
--- so many bytes, or the refusal
-abbrev pub checkedOf : Said Refusal ℕ → Checked
-checkedOf (says taken) = Takes taken
-checkedOf (refuses r) = No r
 
 -- how many bytes a line that was found has
 abbrev pub lineLength : Scanned → ℕ

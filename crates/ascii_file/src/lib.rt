@@ -8,7 +8,8 @@ use text::Scanned;
 ghost use mathlib.Core.Path.{_≡_};
 ghost use Rattle.model.specs.Layouts.{Sized};
 ghost use Rattle.model.specs.Refusals.{answerOf};
-ghost use Rattle.ascii_file.specs.Files.{scanRow, checkRow, isEnding, checkEnd, checkText, checkedOf, lineTaken, firstLine, afterRows, textRow};
+ghost use Rattle.ascii_file.specs.Files.{scanRow, checkRow, isEnding, checkEnd, checkText, lineTaken, firstLine, afterRows, textRow};
+ghost use Rattle.ascii_file.specs.Inner.{checkedOf};
 
 // The most bytes of a row before its line end.
 const MOST: usize = 1880;

@@ -28,7 +28,8 @@ use Rattle.model.specs.declared.Row.{Row}
 use Rattle.model.specs.Kinds.{fitsKind}
 use Rattle.model.specs.Layouts.{Sized}
 use Rattle.model.proofs.KindLaws.{fits-size}
-use Rattle.ascii_plain.specs.Rows.{headText, samplesText, statusText, statusesText, lineOf, textOf, headLength, samplesLength, lengthBy, lengthBy, textLength}
+use Rattle.ascii_plain.specs.Rows.{headText, samplesText, statusText, statusesText, lineOf, textOf}
+use Rattle.ascii_plain.specs.Inner.{headLength, samplesLength, lengthBy, lengthBy, textLength}
 
 pub decimal-short : (v : ℕ) → v < 2 ^ 32 → length (decimal v) ≤ 10
 decimal-short v h = length-decimal-le 9 v (omega arith)

@@ -4,9 +4,9 @@
 --     line-bytes-plain                          every byte is one that a line may have
 --     fields-line                               how many fields it has
 --     number-field, time-field, sample-field, status-field     what each of them is
---     unread-text, unread-length                places past A and D are not read
+--     unread-text                               places past A and D are not read
 -- Assumes nothing.
-use mathlib.Core.Path.{_≡_, refl, sym, ap, _∙_}
+use mathlib.Core.Path.{_≡_, refl, ap, _∙_}
 use mathlib.Core.Bool.{Bool, true, false, _&&_}
 use mathlib.Core.List.{List, [], _∷_, _++_, append-assoc}
 use Prim.Native.Nat.{ℕ, zero, suc, _+_, _-_, _<_, _≤_}
@@ -14,7 +14,7 @@ use native.Mathlib.Omega.{arith}
 use borrow.Author.Tests.{leb-true, le-leb, ne-eqb, lt-ltb, le-ltb}
 use lib.Dec.{leb, ltb}
 use lib.IntN.{ℤ, pos, negsuc}
-use lib.ListN.{length, getD}
+use lib.ListN.{getD}
 use Rattle.ground.specs.Choice.{if_then_else_}
 use Rattle.ground.specs.Tables.{cat, every}
 use Rattle.ground.proofs.Cases.{on-test}
@@ -30,8 +30,7 @@ use Rattle.numerals.proofs.PlainLaws.{decimal-digits}
 use Rattle.numerals.proofs.WholeLaws.{plain-pos, plain-neg}
 use Rattle.model.specs.declared.Layout.{Layout}
 use Rattle.model.specs.declared.Row.{Row}
-use Rattle.ascii_plain.specs.Rows.{sampleText, samplesText, statusChar, statusText, statusesText, lineOf, textOf, textLength}
-use Rattle.ascii_plain.proofs.LengthLaws.{length-text}
+use Rattle.ascii_plain.specs.Rows.{sampleText, samplesText, statusChar, statusText, statusesText, lineOf, textOf}
 
 -- a minus, a digit, or a byte between the two: no comma, and one that a line may have
 abbrev isMark : ℕ → Bool
@@ -157,6 +156,3 @@ module _ (l : Layout) (n : ℕ) (r q : Row)
         cat-ext (sampleText (r .samples)) (sampleText (q .samples)) (l .analogs) (λ i h. rw (samples i h)),
         cat-ext (statusText (r .statuses)) (statusText (q .statuses)) (l .statuses) (λ i h. rw (statuses i h)),
       )
-
-  pub unread-length : textLength l n r ≡ textLength l n q
-  unread-length = length-text l n r ∙ ap length unread-text ∙ sym (length-text l n q)

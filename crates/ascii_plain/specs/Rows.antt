@@ -1,9 +1,9 @@
 -- The plain written row: no spaces, no plus, no needless zeros, zero as 0, CR LF at its end.
 use mathlib.Core.Bool.{Bool, false}
 use mathlib.Core.List.{List, [], _∷_, _++_}
-use Prim.Native.Nat.{ℕ, zero, suc, _+_, _*_}
+use Prim.Native.Nat.{ℕ, _+_}
 use lib.IntN.{ℤ, pos}
-use lib.ListN.{length, getD}
+use lib.ListN.{getD}
 use Rattle.ground.specs.Choice.{if_then_else_}
 use Rattle.ground.specs.Tables.{cat}
 use Rattle.numerals.specs.Decimals.{decimal, plain}
@@ -43,20 +43,3 @@ lineOf l n r =
 -- the plain written row
 unfoldable pub textOf : Layout → ℕ → Row → List ℕ
 textOf l n r = lineOf l n r ++ 13 ∷ 10 ∷ []
-
--- how many characters number and timestamp take
-abbrev pub headLength : ℕ → ℕ → ℕ
-headLength n time = length (decimal n) + (1 + length (decimal time))
-
--- how many characters the first a samples take, each with its comma
-abbrev pub samplesLength : List ℤ → ℕ → ℕ
-samplesLength zs zero = 0
-samplesLength zs (suc a) = samplesLength zs a + (1 + length (plain (getD zs a (pos 0))))
-
--- how many bytes a plain row takes with this timestamp and these samples
-unfoldable pub lengthBy : Layout → ℕ → ℕ → List ℤ → ℕ
-lengthBy l n time zs = headLength n time + (samplesLength zs (l .analogs) + (2 * l .statuses + 2))
-
--- how many bytes the plain written row takes
-abbrev pub textLength : Layout → ℕ → Row → ℕ
-textLength l n r = lengthBy l n (r .time) (r .samples)

@@ -8,7 +8,8 @@ ghost use Prim.Native.Nat.{_+_, _*_, _≤_};
 ghost use lib.ListN.{length};
 ghost use Rattle.numerals.specs.Decimals.{decimal, plain};
 ghost use Rattle.model.specs.Layouts.{Sized};
-ghost use Rattle.ascii_plain.specs.Rows.{headText, samplesText, statusChar, statusesText, lineOf, textOf, headLength, samplesLength, lengthBy, textLength};
+ghost use Rattle.ascii_plain.specs.Rows.{headText, samplesText, statusChar, statusesText, lineOf, textOf};
+ghost use Rattle.ascii_plain.specs.Inner.{headLength, samplesLength, lengthBy, textLength};
 
 const COMMA: u8 = 44;
 

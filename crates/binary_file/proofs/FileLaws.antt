@@ -26,7 +26,8 @@ use Rattle.model.specs.Rows.{misfit, trimmed}
 use Rattle.binary_row.specs.Rows.{rowSize, checkRow}
 use Rattle.binary_bytes.specs.Rows.{binaryOf}
 use Rattle.binary_bytes.proofs.RowLaws.{length-row, row-back, row-fine, bytes-back}
-use Rattle.binary_file.specs.Files.{rowBytes, checkRows, checkBinary, binaryRow, binaryFile}
+use Rattle.binary_file.specs.Files.{rowBytes, checkRows, checkBinary, binaryRow}
+use Rattle.binary_file.specs.Inner.{binaryFile}
 use Rattle.binary_file.proofs.Laws.{row-length, whole}
 
 -- a file of written rows

@@ -4,13 +4,12 @@ use Prim.Native.Nat.{ℕ, zero, suc, _+_, _*_}
 use lib.Dec.{eqb}
 use lib.ListN.{length}
 use Rattle.ground.specs.Said.{Said, says, _>>_, must}
-use Rattle.ground.specs.Tables.{part, cat}
+use Rattle.ground.specs.Tables.{part}
 use Rattle.model.specs.declared.Layout.{Layout}
 use Rattle.model.specs.declared.Row.{Row}
 use Rattle.model.specs.declared.Refusal.{Refusal}
 use Rattle.model.specs.Refusals.{refused}
 use Rattle.binary_row.specs.Rows.{rowSize, checkRow, rowOf}
-use Rattle.binary_bytes.specs.Rows.{binaryOf}
 
 -- the bytes of row i, counted from 0
 abbrev pub rowBytes : Layout → ℕ → List ℕ → List ℕ
@@ -36,7 +35,3 @@ checkBinary l s = do
 -- row i of a file, counted from 0
 unfoldable pub binaryRow : Layout → ℕ → List ℕ → Row
 binaryRow l i s = rowOf l (rowBytes l i s)
-
--- the bytes of a file whose rows are r 0, r 1, ..
-abbrev pub binaryFile : Layout → (ℕ → Row) → List ℕ
-binaryFile l r = cat (λ i. binaryOf l (i + 1) (r i)) (l .rows)

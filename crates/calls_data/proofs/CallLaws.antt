@@ -24,7 +24,7 @@ use Rattle.model.proofs.LayoutLaws.{sized}
 use Rattle.model.proofs.FitLaws.{misfit-all}
 use Rattle.binary_row.specs.Rows.{rowSize}
 use Rattle.binary_row.proofs.SizeLaws.{size-le}
-use Rattle.ascii_plain.specs.Rows.{textLength}
+use Rattle.ascii_plain.specs.Inner.{textLength}
 use Rattle.ascii_plain.proofs.LengthLaws.{text-line, line-most}
 use Rattle.row_bytes.specs.Inner.{lengthOf}
 use Rattle.row_bytes.proofs.KindLaws.{text-kind, binary-kind, by-kind}

@@ -22,7 +22,7 @@ use Rattle.binary_row.specs.Rows as binary
 use Rattle.binary_row.proofs.SizeLaws.{size-le}
 use Rattle.binary_file.specs.Files.{checkBinary, binaryRow}
 use Rattle.recode.specs.Inner.{misfitIn, fitFrom}
-use Rattle.ascii_plain.specs.Rows.{textLength}
+use Rattle.ascii_plain.specs.Inner.{textLength}
 use Rattle.ascii_file.specs.Files as ascii_file
 use Rattle.row_bytes.specs.Rows.{byKind}
 use Rattle.row_bytes.specs.Inner.{lengthOf}

@@ -25,7 +25,7 @@ use Rattle.model.specs.Refusals.{refused}
 use Rattle.data.specs.Files.{rowAt, misfitOf, endMark}
 use Rattle.ascii_file.specs.Files.{mark}
 use Rattle.row_bytes.proofs.KindLaws.{text-kind, binary-kind, by-kind}
-use Rattle.rows.specs.Walks.{rowHere, restOf, checkHere, startFine, walkFine}
+use Rattle.rows.specs.Inner.{rowHere, restOf, checkHere, startFine, walkFine}
 use Rattle.rows.proofs.WalkLaws.{rest-next, row-here, fine-walk, fine-taken}
 use Rattle.change_length.specs.declared.Tally.{Tally}
 use Rattle.change_length.specs.Needed.{fitRow, fitRows}

@@ -15,7 +15,7 @@ ghost use Rattle.model.specs.Layouts.{Sized, inKind};
 ghost use Rattle.model.specs.Refusals.{neededOf, FewBytes};
 ghost use Rattle.binary_file.specs.Files.{checkBinary};
 ghost use Rattle.data.specs.Files.{rowAt, endMark};
-ghost use Rattle.rows.specs.Walks.{HasRow, rowHere, startFine, walkFine};
+ghost use Rattle.rows.specs.Inner.{HasRow, rowHere, startFine, walkFine};
 ghost use Rattle.change_length.specs.Needed.{bytesNeeded};
 ghost use Rattle.change_length.specs.Inner.{noTally, tallied, weigh, tallyOf, weighedOf, Short, settleAll, decided, bothBinary, settleBinary};
 

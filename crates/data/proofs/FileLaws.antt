@@ -29,7 +29,8 @@ use Rattle.model.proofs.LayoutLaws.{sized}
 use Rattle.binary_row.specs.Rows as binary
 use Rattle.binary_bytes.specs.Rows.{binaryOf}
 use Rattle.binary_row.proofs.RowLaws as laws
-use Rattle.binary_file.specs.Files.{rowBytes, checkBinary, binaryRow, binaryFile}
+use Rattle.binary_file.specs.Files.{rowBytes, checkBinary, binaryRow}
+use Rattle.binary_file.specs.Inner.{binaryFile}
 use Rattle.binary_file.proofs.FileLaws.{binary-accepted, binary-reads-back, binary-back}
 use Rattle.ascii_plain.specs.Rows.{textOf}
 use Rattle.ascii_file.specs.Files.{checkText, textRow, mark, textFile}

@@ -46,12 +46,6 @@ abbrev pub rowAnswer : Said Refusal Row → RowAnswer
 rowAnswer (says r) = record { answer = answer.Yes; row = r }
 rowAnswer (refuses r) = record { answer = answer.No r; row = zeroRow }
 
--- the row of a file, or what its check refuses
-abbrev pub shown : Said Refusal (Unit {0}) → Row → RowAnswer
-shown fine r = rowAnswer (do
-  fine
-  says r)
-
 -- row n of a data file
 unfoldable pub showRow : Layout → List ℕ → ℕ → RowAnswer
 showRow l s n = rowAnswer (do

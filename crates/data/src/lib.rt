@@ -14,7 +14,8 @@ ghost use Rattle.model.specs.Layouts.{Sized};
 ghost use Rattle.model.specs.Refusals.{writtenOf};
 ghost use Rattle.binary_file.specs.Files.{checkBinary, binaryRow};
 ghost use Rattle.ascii_file.specs.Files.{checkText, textRow};
-ghost use Rattle.data.specs.Files.{hasRow, checkFile, rowAnswer, shown, showRow, writeSaid};
+ghost use Rattle.data.specs.Files.{hasRow, checkFile, rowAnswer, showRow, writeSaid};
+ghost use Rattle.data.specs.Inner.{shown};
 
 // A row, or a refusal and the row with every place zero.
 pub struct RowAnswer {

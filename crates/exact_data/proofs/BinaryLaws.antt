@@ -32,7 +32,8 @@ use Rattle.binary_bytes.specs.Rows.{binaryOf}
 use Rattle.binary_row.proofs.SizeLaws.{sizes}
 use Rattle.binary_row.proofs.RowLaws as laws
 use Rattle.binary_bytes.proofs.RowLaws as written
-use Rattle.binary_file.specs.Files.{rowBytes, checkBinary, binaryRow, binaryFile}
+use Rattle.binary_file.specs.Files.{rowBytes, checkBinary, binaryRow}
+use Rattle.binary_file.specs.Inner.{binaryFile}
 use Rattle.binary_file.proofs.Laws.{row-length, whole}
 use Rattle.binary_file.proofs.FileLaws.{binary-accepted, row-there}
 use Rattle.paper.specs.Data.{sampleOf, statusOf, lowFirst, TwosComplement, isOn, statusWord, BinaryRow, BinaryFile}

@@ -28,7 +28,7 @@ use Rattle.ascii_file.specs.Files.{scanRow, checkRow, lineTaken}
 use Rattle.ascii_file.proofs.Laws.{row-fine}
 use Rattle.row_bytes.proofs.KindLaws.{text-kind, binary-kind, by-kind}
 use Rattle.data.specs.Files.{fileFine, rowAt}
-use Rattle.rows.specs.Walks.{takenHere, restOf, HasRow, fineHere, checkHere, startFine, walkFine}
+use Rattle.rows.specs.Inner.{takenHere, restOf, HasRow, fineHere, checkHere, startFine, walkFine}
 use Rattle.rows.proofs.WalkLaws.{rest-none, rest-next, fine-walk, fine-taken, taken-within, has-row}
 use Rattle.list_lines.specs.Lines.{rowLine}
 use Rattle.list_lines.specs.Inner.{lineMost}

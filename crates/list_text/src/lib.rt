@@ -9,7 +9,7 @@ ghost use lib.ListN.{length};
 ghost use Rattle.ground.specs.Said.{says};
 ghost use Rattle.model.specs.Layouts.{Sized};
 ghost use Rattle.data.specs.Files.{fileFine};
-ghost use Rattle.rows.specs.Walks.{rowHere, HasRow};
+ghost use Rattle.rows.specs.Inner.{rowHere, HasRow};
 ghost use Rattle.list_lines.specs.Lines.{rowLine};
 ghost use Rattle.list_lines.specs.Inner.{Put, lineMost};
 ghost use Rattle.list_text.specs.Listing.{rowsText, dataListing, listing, listedTo};

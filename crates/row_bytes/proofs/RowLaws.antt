@@ -17,7 +17,8 @@ use Rattle.model.specs.Rows.{trimmed}
 use Rattle.binary_row.specs.Rows as binary
 use Rattle.binary_bytes.specs.Rows.{binaryOf}
 use Rattle.binary_bytes.proofs.RowLaws.{length-row, unread-bytes}
-use Rattle.ascii_plain.specs.Rows.{textOf, textLength}
+use Rattle.ascii_plain.specs.Rows.{textOf}
+use Rattle.ascii_plain.specs.Inner.{textLength}
 use Rattle.ascii_plain.proofs.LengthLaws.{length-text}
 use Rattle.ascii_plain.proofs.LineLaws.{unread-text}
 use Rattle.row_bytes.specs.Rows.{bytesOf}

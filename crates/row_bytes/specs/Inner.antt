@@ -5,7 +5,7 @@ use lib.IntN.{ℤ}
 use Rattle.model.specs.declared.Layout.{Layout}
 use Rattle.model.specs.declared.Row.{Row}
 use Rattle.binary_row.specs.Rows as binary
-use Rattle.ascii_plain.specs.Rows as plain
+use Rattle.ascii_plain.specs.Inner as plain
 use Rattle.row_bytes.specs.Rows.{byKind}
 
 -- how many bytes row n takes

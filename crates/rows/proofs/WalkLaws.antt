@@ -28,7 +28,7 @@ use Rattle.ascii_file.specs.Files as ascii_file
 use Rattle.ascii_file.proofs.Laws as text-laws
 use Rattle.row_bytes.proofs.KindLaws.{text-kind, binary-kind, by-kind}
 use Rattle.data.specs.Files.{fileFine, rowAt}
-use Rattle.rows.specs.Walks.{takenHere, binaryHere, rowHere, HasRow, restOf, fineHere, checkHere, startFine, endFine, walkFine}
+use Rattle.rows.specs.Inner.{takenHere, binaryHere, rowHere, HasRow, restOf, fineHere, checkHere, startFine, endFine, walkFine}
 
 pub walk-turn : (l : Layout) (t : List ℕ) (i rows : ℕ) → i < rows
     → walkFine l t (i + 1) (rows - i) ≡ (checkHere l (i + 1) t >>= (λ taken. walkFine l (drop taken t) (i + 1 + 1) (rows - (i + 1))))

@@ -11,8 +11,8 @@ ghost use lib.ListN.{length};
 ghost use Rattle.model.specs.Layouts.{Sized};
 ghost use Rattle.model.specs.Refusals.{answerOf};
 ghost use Rattle.binary_row.specs.Rows.{rowSize};
-ghost use Rattle.ascii_file.specs.Files.{checkedOf};
-ghost use Rattle.rows.specs.Walks.{takenHere, binaryHere, rowHere, HasRow, fineHere, checkHere, startFine, endFine};
+ghost use Rattle.ascii_file.specs.Inner.{checkedOf};
+ghost use Rattle.rows.specs.Inner.{takenHere, binaryHere, rowHere, HasRow, fineHere, checkHere, startFine, endFine};
 
 // How many bytes the row takes with which `rest` begins.
 pub fn taken_here(layout: Layout, rest: &[u8]) -> usize

@@ -1,6 +1,6 @@
 -- `ascii_plain::length_by` meets its contract: the parts together are far from the end of the numbers.
 use Rattle.ascii_plain.proofs.LengthLaws.{decimal-short}
-use Rattle.ascii_plain.specs.Rows.{lengthBy}
+use Rattle.ascii_plain.specs.Inner.{lengthBy}
 use native.Mathlib.Omega.{arith}
 use Prim.Native.Nat.{_+_, _*_, _≤_}
 use borrow.Author.Needs.{needs}

@@ -6,7 +6,8 @@ use borrow.Author.Needs.{needs}
 use lib.ListN.{length, take}
 use lib.Seq.{length-take-le}
 use Rattle.ground.proofs.Parts.{halves, half-length}
-use Rattle.ascii_plain.specs.Rows.{lineOf, samplesLength}
+use Rattle.ascii_plain.specs.Rows.{lineOf}
+use Rattle.ascii_plain.specs.Inner.{samplesLength}
 use Rattle.ascii_plain.proofs.LengthLaws.{length-line}
 use Rattle.ascii_plain.proofs.put_line.Statement.{statement}
 use Rattle.ascii_plain.proofs.put_line.Tie as tie

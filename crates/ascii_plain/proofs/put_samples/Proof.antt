@@ -13,7 +13,8 @@ use mir.Syntax.{w32}
 use mir.Val.{toZ, ofZ}
 use mir.ValLaws.{toZ-ofZ}
 use Rattle.ground.proofs.Parts.{put-next, put-length}
-use Rattle.ascii_plain.specs.Rows.{sampleText, samplesText, samplesLength}
+use Rattle.ascii_plain.specs.Rows.{sampleText, samplesText}
+use Rattle.ascii_plain.specs.Inner.{samplesLength}
 use Rattle.ascii_plain.proofs.LengthLaws.{samples-long, samples-next, samples-within}
 use Rattle.ascii_plain.proofs.put_samples.Statement.{statement}
 use Rattle.ascii_plain.proofs.put_samples.Tie as tie

@@ -9,7 +9,7 @@ use lib.ListN.{length, getD}
 use mir.Syntax.{w32}
 use mir.ValLaws.{toZ-ofZ}
 use Rattle.numerals.specs.Decimals.{plain}
-use Rattle.ascii_plain.specs.Rows.{samplesLength}
+use Rattle.ascii_plain.specs.Inner.{samplesLength}
 use Rattle.ascii_plain.proofs.LengthLaws.{plain-short, samples-next}
 use Rattle.ascii_plain.proofs.samples_length.Statement.{statement}
 use Rattle.ascii_plain.proofs.samples_length.Tie as tie

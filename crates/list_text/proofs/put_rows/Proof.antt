@@ -7,7 +7,7 @@ use borrow.Author.Needs.{needs}
 use lib.ListN.{length, take, drop}
 use Rattle.ground.proofs.Walk.{rest}
 use Rattle.data.specs.Files.{rowAt}
-use Rattle.rows.specs.Walks.{takenHere, rowHere, HasRow}
+use Rattle.rows.specs.Inner.{takenHere, rowHere, HasRow}
 use Rattle.rows.proofs.WalkLaws.{row-here}
 use Rattle.list_lines.specs.Inner.{Put, lineMost}
 use Rattle.list_text.specs.Listing.{rowsText}

@@ -1,7 +1,7 @@
 -- `row_bytes::length_by` meets its contract, by the kind.
 use Rattle.row_bytes.specs.Inner.{lengthBy}
 use Rattle.row_bytes.proofs.KindLaws.{binary-arm}
-use Rattle.ascii_plain.specs.Rows as plain
+use Rattle.ascii_plain.specs.Inner as plain
 use Rattle.binary_row.proofs.SizeLaws.{size-le}
 use Rattle.binary_row.specs.Rows.{rowSize}
 use native.Mathlib.Omega.{arith}

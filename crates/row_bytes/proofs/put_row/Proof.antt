@@ -2,8 +2,9 @@
 use Rattle.row_bytes.proofs.KindLaws.{binary-arm}
 use Rattle.row_bytes.specs.Rows.{bytesOf}
 use Rattle.row_bytes.specs.Inner.{lengthOf}
-use Rattle.ascii_plain.specs.Rows as plain
-use Rattle.binary_row.specs.Rows as binary
+use Rattle.ascii_plain.specs.Rows.{textOf}
+use Rattle.ascii_plain.specs.Inner.{textLength}
+use Rattle.binary_row.specs.Rows.{rowSize}
 use Rattle.binary_bytes.specs.Rows.{binaryOf}
 use mathlib.Core.Path.{sym, _∙_}
 use borrow.Author.Needs.{needs}
@@ -21,7 +22,7 @@ put-row-requires : tie.Need-put-row-requires
 unfolding lengthOf
 put-row-requires c κs =
     let a = c .before .before .before .args in
-    (c .before .before .before .pre .0, c .before .before .before .pre .1 ∙ binary-arm (a .layout .kind) (plain.textLength (a .layout) (a .n) (a .row)) (binary.rowSize (a .layout)) (c .before .match .keys2), c .before .before .before .pre .2)
+    (c .before .before .before .pre .0, c .before .before .before .pre .1 ∙ binary-arm (a .layout .kind) (textLength (a .layout) (a .n) (a .row)) (rowSize (a .layout)) (c .before .match .keys2), c .before .before .before .pre .2)
 
 same-length : tie.Need-same-length
 same-length c = search needs
@@ -37,7 +38,7 @@ returns-2 : tie.Need-returns-2
 unfolding bytesOf
 returns-2 c =
     let a = c .before .before .before .before .before .before .args in
-    c .before .before .put-row .ensures ∙ sym (binary-arm (a .layout .kind) (plain.textOf (a .layout) (a .n) (a .row)) (binaryOf (a .layout) (a .n) (a .row)) (c .before .before .before .before .match .keys2))
+    c .before .before .put-row .ensures ∙ sym (binary-arm (a .layout .kind) (textOf (a .layout) (a .n) (a .row)) (binaryOf (a .layout) (a .n) (a .row)) (c .before .before .before .before .match .keys2))
 
 pub put-row-spec : {M : Type 1} → statement M
 put-row-spec =

@@ -1,7 +1,7 @@
 -- `row_bytes::row_length` meets its contract: the length is the kind's.
 use Rattle.row_bytes.proofs.KindLaws.{binary-arm}
 use Rattle.row_bytes.specs.Inner.{lengthOf}
-use Rattle.ascii_plain.specs.Rows.{textLength}
+use Rattle.ascii_plain.specs.Inner.{textLength}
 use Rattle.binary_row.specs.Rows.{rowSize}
 use borrow.Author.Needs.{needs}
 use Rattle.row_bytes.proofs.row_length.Statement.{statement}

@@ -1,5 +1,5 @@
 -- `rows::check_here` meets its contract, by the kind.
-use Rattle.rows.specs.Walks.{fineHere, checkHere}
+use Rattle.rows.specs.Inner.{fineHere, checkHere}
 use Rattle.row_bytes.proofs.KindLaws.{binary-arm, not-text}
 use Rattle.ascii_file.specs.Files.{checkRow}
 use borrow.Author.Needs.{needs}

@@ -1,5 +1,5 @@
 -- `rows::end_fine` meets its contract, by the kind.
-use Rattle.rows.specs.Walks.{endFine}
+use Rattle.rows.specs.Inner.{endFine}
 use Rattle.row_bytes.proofs.KindLaws.{binary-arm}
 use Rattle.ascii_file.specs.Files.{checkEnd}
 use Rattle.ground.specs.Said.{says}

@@ -1,5 +1,5 @@
 -- `rows::start_fine` meets its contract, by the kind.
-use Rattle.rows.specs.Walks.{startFine}
+use Rattle.rows.specs.Inner.{startFine}
 use Rattle.row_bytes.proofs.KindLaws.{binary-arm}
 use Rattle.binary_file.specs.Files.{checkLength}
 use Rattle.ground.specs.Said.{says}

@@ -1,5 +1,5 @@
 -- `rows::taken_here` meets its contract, by the kind.
-use Rattle.rows.specs.Walks.{takenHere}
+use Rattle.rows.specs.Inner.{takenHere}
 use Rattle.row_bytes.proofs.KindLaws.{binary-arm}
 use Rattle.ascii_file.specs.Files.{scanRow, lineTaken}
 use Rattle.binary_row.specs.Rows.{rowSize}

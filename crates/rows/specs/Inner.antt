@@ -1,4 +1,5 @@
--- A walk over a data file of any kind, row by row: what stands at a row, and what follows it.
+-- NOTHING TO BELIEVE HERE: a walk over a data file of any kind, row by row: what stands at a row, and what follows it. No public call cites it.
+-- The laws `fine-walk` and `row-here` (proofs/WalkLaws.antt) say that the walk's verdict is `fileFine`, and its rows `rowAt`.
 use mathlib.Core.Path.{_≡_}
 use mathlib.Core.List.{List}
 use Prim.Native.Nat.{ℕ, zero, suc, _+_, _*_, _≤_}

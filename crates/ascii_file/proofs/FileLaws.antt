@@ -24,7 +24,7 @@ use Rattle.ascii_row.proofs.LineLaws.{sample-there, row-trimmed}
 use Rattle.ascii_plain.specs.Rows.{textOf}
 use Rattle.ascii_plain.specs.Inner.{textLength}
 use Rattle.ascii_plain.proofs.LengthLaws.{length-text}
-use Rattle.ascii_file.specs.Files.{isEnding, checkRows, checkText, firstLine, afterRows, textRow, mark, textFile}
+use Rattle.ascii_file.specs.Files.{isEnding, checkLines, checkText, firstLine, afterRows, textRow, mark, textFile}
 use Rattle.ascii_file.proofs.RoundLaws.{Fits, line-back, row-checked, row-line, row-rest}
 
 pub rows-front : (l : Layout) (r : ℕ → Row) (n m : ℕ) (end : List ℕ)
@@ -37,8 +37,8 @@ rows-front l r n m end =
 -- m rows from row n on, and then the end mark
 module _ (l : Layout) (s : Sized l) where
   rows-accepted : (r : ℕ → Row) (n m : ℕ) → n + m ≤ 2 ^ 32 → ((i : ℕ) → i < m → Fits l (r i))
-      → checkRows l (cat (λ i. textOf l (i + n) (r i)) m ++ mark) n m ≡ says tt
-  unfolding checkRows isEnding
+      → checkLines l (cat (λ i. textOf l (i + n) (r i)) m ++ mark) n m ≡ says tt
+  unfolding checkLines isEnding
   rows-accepted r n zero h f = refl
   rows-accepted r n (suc m) h f =
       let more = cat (λ i. textOf l (i + (n + 1)) (r (i + 1))) m ++ mark in

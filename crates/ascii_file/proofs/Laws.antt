@@ -1,11 +1,11 @@
 -- Laws of files of text.
 --     takes-told, not-told            what an answer of a row's check says of the rule that gave it
 --     ending-none, ending-one, ending-three, ending-not     what may follow the last row, by its length
---     row-fine                        a row that is fine: its line, and that it lies within the text
+--     row-takes-told                  a row that is fine: its line, and that it lies within the text
 --     row-takes                       a row that one walk read through is fine
 --     rows-turn                       a turn of the check over the rows
---     line-within, taken-within       the line that a text begins with lies within it
---     after-none, after-next          what follows the first i rows, from one to the next
+--     line-within, line-taken-within  the line that a text begins with lies within it
+--     rows-none, rows-after           what follows the first i rows, from one to the next
 -- Assumes nothing.
 use mathlib.Core.Path.{_≡_, refl, sym, ap, _∙_}
 use mathlib.Core.Bool.{true, false, _&&_}
@@ -25,7 +25,7 @@ use Rattle.model.specs.declared.Refusal.{Refusal}
 use Rattle.ascii_row.specs.Rows.{checkLine}
 use Rattle.ascii_walk.specs.Inner.{RowThere}
 use Rattle.ascii_file.specs.declared.Checked.the-variants.{Takes, No}
-use Rattle.ascii_file.specs.Files.{scanRow, found, checkRow, isEnding, checkRows, lineLength, lineTaken, afterRows}
+use Rattle.ascii_file.specs.Files.{scanRow, found, takeRow, isEnding, checkLines, lineLength, lineTaken, afterRows}
 use Rattle.ascii_file.specs.Inner.{checkedOf}
 
 pub takes-told : (x : Said Refusal ℕ) (k : ℕ) → checkedOf x ≡ Takes k → x ≡ says k
@@ -64,7 +64,7 @@ ending-not (b ∷ c ∷ d ∷ []) f g h = absurd (h refl)
 ending-not (b ∷ c ∷ d ∷ e ∷ s) f g h = refl
 
 -- a row that is fine is a line of len bytes, fine, and takes len + 2
-pub record Fine (l : Layout) (n : ℕ) (s : List ℕ) (k : ℕ) : Type 0 where
+pub record RowTakes (l : Layout) (n : ℕ) (s : List ℕ) (k : ℕ) : Type 0 where
   pub len : ℕ
   pub scanned : scanRow s ≡ Line len (len + 2)
   pub line : checkLine l n (take len s) ≡ says tt
@@ -72,7 +72,7 @@ pub record Fine (l : Layout) (n : ℕ) (s : List ℕ) (k : ℕ) : Type 0 where
   pub within : k ≤ length s
 
 fine-from : (l : Layout) (n : ℕ) (s : List ℕ) (k : ℕ) (r : Scanned) → Found 1880 s r → scanRow s ≡ r
-    → (found n r >>= (λ len. checkLine l n (take len s) >> says (len + 2))) ≡ says k → Fine l n s k
+    → (found n r >>= (λ len. checkLine l n (take len s) >> says (len + 2))) ≡ says k → RowTakes l n s k
 fine-from l n s k (Line len taken) f q e =
     let t = then-told (checkLine l n (take len s)) (says (len + 2)) k e in
     let w : k ≡ len + 2 = cc in
@@ -80,18 +80,18 @@ fine-from l n s k (Line len taken) f q e =
 fine-from l n s k Ends f q e = record { len = 0; scanned = cc; line = cc; takes = cc; within = let z : k ≡ 0 = cc in omega arith }
 fine-from l n s k Bad f q e = record { len = 0; scanned = cc; line = cc; takes = cc; within = let z : k ≡ 0 = cc in omega arith }
 
-pub row-fine : (l : Layout) (n : ℕ) (s : List ℕ) (k : ℕ) → checkRow l n s ≡ says k → Fine l n s k
-unfolding checkRow
-row-fine l n s k e = fine-from l n s k (scanRow s) (scan-found 1880 s) refl e
+pub row-takes-told : (l : Layout) (n : ℕ) (s : List ℕ) (k : ℕ) → takeRow l n s ≡ says k → RowTakes l n s k
+unfolding takeRow
+row-takes-told l n s k e = fine-from l n s k (scanRow s) (scan-found 1880 s) refl e
 
 -- a row that one walk read through
-pub row-takes : (l : Layout) (n : ℕ) (s : List ℕ) (k : ℕ) → RowThere l n s k → checkRow l n s ≡ says k
-unfolding checkRow
+pub row-takes : (l : Layout) (n : ℕ) (s : List ℕ) (k : ℕ) → RowThere l n s k → takeRow l n s ≡ says k
+unfolding takeRow
 row-takes l n s k r = rw (r .scanned, r .fine) (ap says (sym (line-found 1880 (k - 2) k s (r .scanned) .0)))
 
 pub rows-turn : (l : Layout) (s : List ℕ) (n end : ℕ) → n < end
-    → checkRows l s n (end - n) ≡ (checkRow l n s >>= (λ taken. checkRows l (drop taken s) (n + 1) (end - (n + 1))))
-unfolding checkRows
+    → checkLines l s n (end - n) ≡ (takeRow l n s >>= (λ taken. checkLines l (drop taken s) (n + 1) (end - (n + 1))))
+unfolding checkLines
 rows-turn l s n end h = let e : end - n ≡ suc (end - (n + 1)) = omega arith in rw e
 
 within-from : (s : List ℕ) (r : Scanned) → Found 1880 s r → (lineLength r ≤ length s) × (lineTaken r ≤ length s)
@@ -102,14 +102,14 @@ within-from s Bad f = (omega arith, omega arith)
 pub line-within : (s : List ℕ) → lineLength (scanRow s) ≤ length s
 line-within s = within-from s (scanRow s) (scan-found 1880 s) .0
 
-pub taken-within : (s : List ℕ) → lineTaken (scanRow s) ≤ length s
-taken-within s = within-from s (scanRow s) (scan-found 1880 s) .1
+pub line-taken-within : (s : List ℕ) → lineTaken (scanRow s) ≤ length s
+line-taken-within s = within-from s (scanRow s) (scan-found 1880 s) .1
 
-pub after-none : (s : List ℕ) → afterRows 0 s ≡ s
+pub rows-none : (s : List ℕ) → afterRows 0 s ≡ s
 unfolding afterRows
-after-none s = refl
+rows-none s = refl
 
-pub after-next : (i : ℕ) (s : List ℕ) → afterRows (i + 1) s ≡ drop (lineTaken (scanRow (afterRows i s))) (afterRows i s)
+pub rows-after : (i : ℕ) (s : List ℕ) → afterRows (i + 1) s ≡ drop (lineTaken (scanRow (afterRows i s))) (afterRows i s)
 unfolding afterRows
-after-next zero s = refl
-after-next (suc i) s = rw (suc-add i 1) (after-next i (drop (lineTaken (scanRow s)) s))
+rows-after zero s = refl
+rows-after (suc i) s = rw (suc-add i 1) (rows-after i (drop (lineTaken (scanRow s)) s))

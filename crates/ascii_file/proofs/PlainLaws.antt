@@ -17,14 +17,14 @@ use Rattle.numerals.specs.Decimals.{decimal, plain, isPlainCount, isPlain}
 use Rattle.numerals.proofs.PlainLaws.{decimal-count}
 use Rattle.numerals.proofs.WholeLaws.{plain-whole}
 use Rattle.model.specs.declared.Layout.{Layout}
-use Rattle.ascii_row.specs.Fields.{readTime, readSample, isStatus, isCount, isWhole, timeIn, sampleIn, statusIn}
+use Rattle.ascii_row.specs.Fields.{readTimestamp, readSample, isStatus, isCount, isWhole, timeIn, sampleIn, statusIn}
 use Rattle.ascii_row.specs.Rows.{rowOf}
 use Rattle.ascii_row.proofs.FieldLaws.{time-read, sample-read}
 use Rattle.ascii_row.proofs.LineLaws.{FineLine, sample-there, status-there}
 use Rattle.ascii_plain.specs.Rows.{statusChar, lineOf}
 use Rattle.ascii_plain.proofs.LineLaws.{fieldText, field-sample, field-status, as-joined}
 
-pub time-again : (f : List ℕ) → isPlainCount f ≡ true → isCount (readTime f) ≡ true → decimal (timeIn f) ≡ f
+pub time-again : (f : List ℕ) → isPlainCount f ≡ true → isCount (readTimestamp f) ≡ true → decimal (timeIn f) ≡ f
 time-again f p h = decimal-count 1 13 f (timeIn f) p (time-read f h)
 
 pub sample-again : (f : List ℕ) → isPlain f ≡ true → isWhole (readSample f) ≡ true → plain (sampleIn f) ≡ f

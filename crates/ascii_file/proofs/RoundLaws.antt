@@ -1,6 +1,6 @@
 -- Laws of a plain row and its line: what is written is found, is fine and reads back.
 --     Fits                                      what a row must keep to be written: its timestamp and its samples
---     time-back, sample-back, status-back       what is written in a field reads back
+--     time-back, sample-plain-back, status-back     what is written in a field reads back
 --     line-fine, line-back                      the line of a row is fine, and says the row with its places past A and D zero
 --     row-scanned, row-checked                  a row that a text begins with is found, and is fine
 --     row-line, row-rest                        its line, and what follows it
@@ -30,27 +30,27 @@ use Rattle.model.specs.declared.Row.{Row}
 use Rattle.model.specs.Kinds.{fitsKind}
 use Rattle.model.specs.Layouts.{Sized}
 use Rattle.model.specs.Rows.{latestTime, trimmed}
-use Rattle.ascii_row.specs.Fields.{readTime, readSample, isStatus, timeIn, sampleIn, statusIn}
-use Rattle.ascii_row.specs.Rows.{checkLine, sampleAt, statusAt, rowOf}
+use Rattle.ascii_row.specs.Fields.{readTimestamp, readSample, isStatus, timeIn, sampleIn, statusIn}
+use Rattle.ascii_row.specs.Rows.{checkLine, fieldSample, fieldStatus, rowOf}
 use Rattle.ascii_row.proofs.LineLaws.{line-is, sample-at, status-at}
 use Rattle.ascii_plain.specs.Rows.{statusChar, lineOf, textOf}
 use Rattle.ascii_plain.specs.Inner.{textLength}
 use Rattle.ascii_plain.proofs.LengthLaws.{decimal-short, sample-short, text-line, line-most}
 use Rattle.ascii_plain.proofs.LineLaws.{line-bytes-plain, fields-line, number-field, time-field, sample-field, status-field}
-use Rattle.ascii_file.specs.Files.{scanRow, checkRow, lineTaken, firstLine}
+use Rattle.ascii_file.specs.Files.{scanRow, takeRow, lineTaken, firstLine}
 
 -- a row that can be written: its timestamp and its samples have 32 bits
 pub record Fits (l : Layout) (r : Row) : Type 0 where
   pub time : r .time < 2 ^ 32
   pub samples : (i : ℕ) → i < l .analogs → fitsKind Ascii (getD (r .samples) i (pos 0)) ≡ true
 
-pub time-back : (v : ℕ) → v < 2 ^ 32 → readTime (decimal v) ≡ count.Is v
-unfolding readTime
+pub time-back : (v : ℕ) → v < 2 ^ 32 → readTimestamp (decimal v) ≡ count.Is v
+unfolding readTimestamp
 time-back v h = rw (count-decimal 1 13 v (length-decimal v) (omega (arith, decimal-short v h)), le-leb v latestTime (omega arith))
 
-pub sample-back : (z : ℤ) → fitsKind Ascii z ≡ true → readSample (plain z) ≡ whole.Is z
+pub sample-plain-back : (z : ℤ) → fitsKind Ascii z ≡ true → readSample (plain z) ≡ whole.Is z
 unfolding readSample
-sample-back z h = rw (whole-plain z (omega (arith, sample-short z h)), h)
+sample-plain-back z h = rw (whole-plain z (omega (arith, sample-short z h)), h)
 
 pub status-back : (b : Bool) → (isStatus (statusChar b ∷ []) ≡ true) × (statusIn (statusChar b ∷ []) ≡ b)
 unfolding isStatus statusIn
@@ -64,15 +64,15 @@ module _ (l : Layout) (n : ℕ) (r : Row) (f : Fits l r) where
         count = fields-line l n r;
         number = rw (number-field l n r) (count-decimal 1 10 n (length-decimal n) (decimal-short n h));
         time = rw (time-field l n r, time-back (r .time) (f .time));
-        samples = λ i k. rw (sample-field l n r i k, sample-back (getD (r .samples) i (pos 0)) (f .samples i k));
+        samples = λ i k. rw (sample-field l n r i k, sample-plain-back (getD (r .samples) i (pos 0)) (f .samples i k));
         statuses = λ i k. rw (status-field l n r i k) (status-back (getD (r .statuses) i false) .0);
       })
 
-  sample-read : (i : ℕ) → i < l .analogs → sampleAt (afterFields 2 (lineOf l n r)) i ≡ getD (r .samples) i (pos 0)
+  sample-read : (i : ℕ) → i < l .analogs → fieldSample (afterFields 2 (lineOf l n r)) i ≡ getD (r .samples) i (pos 0)
   unfolding sampleIn
-  sample-read i h = rw (sample-at, sample-field l n r i h, sample-back (getD (r .samples) i (pos 0)) (f .samples i h))
+  sample-read i h = rw (sample-at, sample-field l n r i h, sample-plain-back (getD (r .samples) i (pos 0)) (f .samples i h))
 
-  status-read : (i : ℕ) → i < l .statuses → statusAt (afterFields (2 + l .analogs) (lineOf l n r)) i ≡ getD (r .statuses) i false
+  status-read : (i : ℕ) → i < l .statuses → fieldStatus (afterFields (2 + l .analogs) (lineOf l n r)) i ≡ getD (r .statuses) i false
   status-read i h = rw (status-at l, status-field l n r i h) (status-back (getD (r .statuses) i false) .1)
 
   pub line-back : rowOf l (lineOf l n r) ≡ trimmed l r
@@ -81,8 +81,8 @@ module _ (l : Layout) (n : ℕ) (r : Row) (f : Fits l r) where
       rw (
         time-field l n r,
         time-back (r .time) (f .time),
-        tab-ext (sampleAt (afterFields 2 (lineOf l n r))) (λ i. getD (r .samples) i (pos 0)) (l .analogs) sample-read,
-        tab-ext (statusAt (afterFields (2 + l .analogs) (lineOf l n r))) (λ i. getD (r .statuses) i false) (l .statuses) status-read,
+        tab-ext (fieldSample (afterFields 2 (lineOf l n r))) (λ i. getD (r .samples) i (pos 0)) (l .analogs) sample-read,
+        tab-ext (fieldStatus (afterFields (2 + l .analogs) (lineOf l n r))) (λ i. getD (r .statuses) i false) (l .statuses) status-read,
       )
 
   -- the row with what follows it
@@ -97,8 +97,8 @@ module _ (l : Layout) (n : ℕ) (r : Row) (f : Fits l r) where
     take-line : take (length (lineOf l n r)) (textOf l n r ++ rest) ≡ lineOf l n r
     take-line = rw (as-line, take-append-seam)
 
-    pub row-checked : checkRow l n (textOf l n r ++ rest) ≡ says (textLength l n r)
-    unfolding checkRow
+    pub row-checked : takeRow l n (textOf l n r ++ rest) ≡ says (textLength l n r)
+    unfolding takeRow
     row-checked = rw (row-scanned, take-line, line-fine h, text-line l n r)
 
     pub row-line : firstLine (textOf l n r ++ rest) ≡ lineOf l n r

@@ -27,8 +27,8 @@ found n Ends = refuses (refused 11 n 0)
 found n Bad = refuses (refused 14 n 0)
 
 -- row n, with which s begins, is fine: how many bytes it takes with its CR LF
-unfoldable pub checkRow : Layout → ℕ → List ℕ → Said Refusal ℕ
-checkRow l n s = do
+unfoldable pub takeRow : Layout → ℕ → List ℕ → Said Refusal ℕ
+takeRow l n s = do
   len ← found n (scanRow s)
   checkLine l n (take len s)
   says (len + 2)
@@ -46,15 +46,15 @@ abbrev pub checkEnd : ℕ → List ℕ → Said Refusal (Unit {0})
 checkEnd n s = must (isEnding s) (refused 11 n 0)
 
 -- m rows are fine, from row n on, with which s begins, and then its end
-unfoldable pub checkRows : Layout → List ℕ → ℕ → ℕ → Said Refusal (Unit {0})
-checkRows l s n zero = checkEnd n s
-checkRows l s n (suc m) = do
-  taken ← checkRow l n s
-  checkRows l (drop taken s) (n + 1) m
+unfoldable pub checkLines : Layout → List ℕ → ℕ → ℕ → Said Refusal (Unit {0})
+checkLines l s n zero = checkEnd n s
+checkLines l s n (suc m) = do
+  taken ← takeRow l n s
+  checkLines l (drop taken s) (n + 1) m
 
 -- a file of text: row by row, then its end
 unfoldable pub checkText : Layout → List ℕ → Said Refusal (Unit {0})
-checkText l s = checkRows l s 1 (l .rows)
+checkText l s = checkLines l s 1 (l .rows)
 
 -- how many bytes a line that was found has
 abbrev pub lineLength : Scanned → ℕ

@@ -8,11 +8,11 @@ use text::Scanned;
 ghost use mathlib.Core.Path.{_≡_};
 ghost use Rattle.model.specs.Layouts.{Sized};
 ghost use Rattle.model.specs.Refusals.{answerOf};
-ghost use Rattle.ascii_file.specs.Files.{scanRow, checkRow, isEnding, checkEnd, checkText, lineTaken, firstLine, afterRows, textRow};
+ghost use Rattle.ascii_file.specs.Files.{scanRow, takeRow, isEnding, checkEnd, checkText, lineTaken, firstLine, afterRows, textRow};
 ghost use Rattle.ascii_file.specs.Inner.{checkedOf};
 
 // The most bytes of a row before its line end.
-const MOST: usize = 1880;
+const LONGEST: usize = 1880;
 
 // How many bytes a row takes, or why it is refused.
 pub enum Checked {
@@ -23,9 +23,9 @@ pub enum Checked {
 // Row n, with which `rest` begins, in the order of the rules: its line, then the fields of its line.
 fn check_in_order(layout: Layout, n: u32, rest: &[u8]) -> Checked
     requires { ⌜ Sized layout ⌝ }
-    ensures { λ r. ⌜ r ≡ checkedOf (checkRow layout n (now (rest .entry))) ⌝ }
+    ensures { λ r. ⌜ r ≡ checkedOf (takeRow layout n (now (rest .entry))) ⌝ }
 {
-    match text::scan_line(rest, MOST) {
+    match text::scan_line(rest, LONGEST) {
         Scanned::Line { len, taken } => {
             match ascii_row::check_line(layout, n, &rest[..len]) {
                 Answer::Yes => Checked::Takes(taken),
@@ -38,9 +38,9 @@ fn check_in_order(layout: Layout, n: u32, rest: &[u8]) -> Checked
 }
 
 // Row n, with which `rest` begins: read through in one walk, and only where that does not say yes, in the order of the rules.
-pub fn check_row(layout: Layout, n: u32, rest: &[u8]) -> Checked
+pub fn take_row(layout: Layout, n: u32, rest: &[u8]) -> Checked
     requires { ⌜ Sized layout ⌝ }
-    ensures { λ r. ⌜ r ≡ checkedOf (checkRow layout n (now (rest .entry))) ⌝ }
+    ensures { λ r. ⌜ r ≡ checkedOf (takeRow layout n (now (rest .entry))) ⌝ }
 {
     let taken = ascii_walk::row_end(layout, n, rest);
     if taken < 1 {
@@ -91,7 +91,7 @@ pub fn check_text(layout: Layout, data: &[u8]) -> Answer
     let mut t = data;
     let mut n: u32 = 1;
     while n <= rows {
-        match check_row(layout, n, t) {
+        match take_row(layout, n, t) {
             Checked::No(refusal) => {
                 return Answer::No(refusal);
             }
@@ -108,7 +108,7 @@ pub fn check_text(layout: Layout, data: &[u8]) -> Answer
 pub fn line_taken(rest: &[u8]) -> usize
     ensures { λ r. ⌜ r ≡ lineTaken (scanRow (now (rest .entry))) ⌝ }
 {
-    match text::scan_line(rest, MOST) {
+    match text::scan_line(rest, LONGEST) {
         Scanned::Line { len, taken } => taken,
         Scanned::Ends => 0,
         Scanned::Bad => 0,
@@ -119,7 +119,7 @@ pub fn line_taken(rest: &[u8]) -> usize
 pub fn first_line<'a>(rest: &'a [u8]) -> &'a [u8]
     ensures { λ r. ⌜ now r ≡ firstLine (now (rest .entry)) ⌝ }
 {
-    match text::scan_line(rest, MOST) {
+    match text::scan_line(rest, LONGEST) {
         Scanned::Line { len, taken } => &rest[..len],
         Scanned::Ends => &rest[..0],
         Scanned::Bad => &rest[..0],

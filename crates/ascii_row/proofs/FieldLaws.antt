@@ -1,5 +1,5 @@
 -- Laws of the fields of a text row.
---     time-told, time-below       a timestamp that is read is the field's count, and below 2 ^ 32
+--     timestamp-told, time-below  a timestamp that is read is the field's count, and below 2 ^ 32
 --     sample-told, sample-fits    a sample that is read is the field's whole number, and fits
 --     time-read, sample-read      what a field that is fine is read as
 --     time-fine, sample-fine      what is read as a count or a whole number in its range is fine
@@ -19,12 +19,12 @@ use Rattle.numerals.specs.declared.Count.{Count}
 use Rattle.numerals.specs.declared.Count.the-variants as count
 use Rattle.numerals.specs.declared.Whole.{Whole}
 use Rattle.numerals.specs.declared.Whole.the-variants as whole
-use Rattle.numerals.specs.Counts.{readCount}
+use Rattle.numerals.specs.Counts.{readCount, countIn}
 use Rattle.numerals.specs.Wholes.{readWhole}
 use Rattle.model.specs.declared.Kind.the-variants.{Ascii}
 use Rattle.model.specs.Kinds.{fitsKind}
 use Rattle.model.specs.Rows.{latestTime}
-use Rattle.ascii_row.specs.Fields.{atMost, inRange, readTime, readSample, isStatus, isCount, countIn, isWhole, wholeIn, timeIn, sampleIn}
+use Rattle.ascii_row.specs.Fields.{atMost, sampleFit, readTimestamp, readSample, isStatus, isCount, isWhole, wholeIn, timeIn, sampleIn}
 
 most-told : (m : ℕ) (k : Count) (v : ℕ) → atMost m k ≡ count.Is v → (k ≡ count.Is v) × (v ≤ m)
 most-told m (count.Is w) v e =
@@ -33,9 +33,9 @@ most-told m (count.Is w) v e =
     (λ t. let q : count.Form ≡ count.Is v = rw t at e in let s : v ≡ m = cc in (cc, omega arith))
 most-told m count.Form v e = let s : v ≡ m = cc in (cc, omega arith)
 
-pub time-told : (f : List ℕ) (v : ℕ) → readTime f ≡ count.Is v → (readCount 1 13 f ≡ count.Is v) × (v < 2 ^ 32)
-unfolding readTime
-time-told f v e = let t = most-told latestTime (readCount 1 13 f) v e in (t .0, omega arith)
+pub timestamp-told : (f : List ℕ) (v : ℕ) → readTimestamp f ≡ count.Is v → (readCount 1 13 f ≡ count.Is v) × (v < 2 ^ 32)
+unfolding readTimestamp
+timestamp-told f v e = let t = most-told latestTime (readCount 1 13 f) v e in (t .0, omega arith)
 
 count-below : (m : ℕ) (k : Count) → 1 ≤ m → ((v : ℕ) → k ≡ count.Is v → v < m) → countIn k < m
 count-below m (count.Is v) h f = f v refl
@@ -43,18 +43,18 @@ count-below m count.Form h f = h
 
 pub time-below : (f : List ℕ) → timeIn f < 2 ^ 32
 unfolding timeIn
-time-below f = count-below (2 ^ 32) (readTime f) (omega arith) (λ v e. time-told f v e .1)
+time-below f = count-below (2 ^ 32) (readTimestamp f) (omega arith) (λ v e. timestamp-told f v e .1)
 
-range-told : (k : Whole) (z : ℤ) → inRange k ≡ whole.Is z → (k ≡ whole.Is z) × (fitsKind Ascii z ≡ true)
-range-told (whole.Is y) z e =
+fit-told : (k : Whole) (z : ℤ) → sampleFit k ≡ whole.Is z → (k ≡ whole.Is z) × (fitsKind Ascii z ≡ true)
+fit-told (whole.Is y) z e =
     on-test (fitsKind Ascii y)
     (λ t. let q : whole.Is y ≡ whole.Is z = rw t at e in let s : y ≡ z = cc in (q, rw s at t))
     (λ t. let q : whole.Form ≡ whole.Is z = rw t at e in (cc, cc))
-range-told whole.Form z e = (cc, cc)
+fit-told whole.Form z e = (cc, cc)
 
 pub sample-told : (f : List ℕ) (z : ℤ) → readSample f ≡ whole.Is z → (readWhole f ≡ whole.Is z) × (fitsKind Ascii z ≡ true)
 unfolding readSample
-sample-told f z e = range-told (readWhole f) z e
+sample-told f z e = fit-told (readWhole f) z e
 
 whole-fits : (k : Whole) → ((z : ℤ) → k ≡ whole.Is z → fitsKind Ascii z ≡ true) → fitsKind Ascii (wholeIn k) ≡ true
 unfolding fitsKind
@@ -69,9 +69,9 @@ count-read : (k : Count) → isCount k ≡ true → k ≡ count.Is (countIn k)
 count-read (count.Is v) h = refl
 count-read count.Form h = cc
 
-pub time-read : (f : List ℕ) → isCount (readTime f) ≡ true → readCount 1 13 f ≡ count.Is (timeIn f)
+pub time-read : (f : List ℕ) → isCount (readTimestamp f) ≡ true → readCount 1 13 f ≡ count.Is (timeIn f)
 unfolding timeIn
-time-read f h = time-told f (timeIn f) (count-read (readTime f) h) .0
+time-read f h = timestamp-told f (timeIn f) (count-read (readTimestamp f) h) .0
 
 whole-read : (k : Whole) → isWhole k ≡ true → k ≡ whole.Is (wholeIn k)
 whole-read (whole.Is z) h = refl
@@ -81,8 +81,8 @@ pub sample-read : (f : List ℕ) → isWhole (readSample f) ≡ true → readWho
 unfolding sampleIn
 sample-read f h = sample-told f (sampleIn f) (whole-read (readSample f) h) .0
 
-pub time-fine : (f : List ℕ) (v : ℕ) → readCount 1 13 f ≡ count.Is v → v ≤ latestTime → isCount (readTime f) ≡ true
-unfolding readTime
+pub time-fine : (f : List ℕ) (v : ℕ) → readCount 1 13 f ≡ count.Is v → v ≤ latestTime → isCount (readTimestamp f) ≡ true
+unfolding readTimestamp
 time-fine f v e h = rw (e, le-leb v latestTime h)
 
 pub sample-fine : (f : List ℕ) (z : ℤ) → readWhole f ≡ whole.Is z → fitsKind Ascii z ≡ true → isWhole (readSample f) ≡ true

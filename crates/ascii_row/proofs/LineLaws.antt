@@ -28,8 +28,8 @@ use Rattle.numerals.specs.Counts.{readCount}
 use Rattle.model.specs.declared.Layout.{Layout}
 use Rattle.model.specs.Refusals.{refused}
 use Rattle.model.specs.Rows.{trimmed}
-use Rattle.ascii_row.specs.Fields.{readTime, readSample, isStatus, isCount, isWhole, sampleIn, statusIn}
-use Rattle.ascii_row.specs.Rows.{fieldsOf, field, fieldFine, checkFields, checkNumber, checkLine, sampleAt, statusAt, rowOf}
+use Rattle.ascii_row.specs.Fields.{readTimestamp, readSample, isStatus, isCount, isWhole, sampleIn, statusIn}
+use Rattle.ascii_row.specs.Rows.{fieldsOf, field, fieldFine, checkFields, checkNumber, checkLine, fieldSample, fieldStatus, rowOf}
 
 -- each of m fields from field k on, with which t begins, is fine
 fields-is : (a n : ℕ) (t : List ℕ) (k m : ℕ) → ((j : ℕ) → j < m → fieldFine a (k + j) (fieldAt (j + 1) t) ≡ true) → checkFields a n t k m ≡ says tt
@@ -58,13 +58,13 @@ fields-told a n t k (suc m) e (suc j) h =
 pub record FineLine (l : Layout) (n : ℕ) (line : List ℕ) : Type 0 where
   pub count : fieldCount line ≡ fieldsOf l
   pub number : readCount 1 10 (fieldAt 1 line) ≡ Is n
-  pub time : isCount (readTime (fieldAt 2 line)) ≡ true
+  pub time : isCount (readTimestamp (fieldAt 2 line)) ≡ true
   pub samples : (i : ℕ) → i < l .analogs → isWhole (readSample (fieldAt (3 + i) line)) ≡ true
   pub statuses : (i : ℕ) → i < l .statuses → isStatus (fieldAt (3 + l .analogs + i) line) ≡ true
 
 -- what is asked of each field
 module _ (a : ℕ) (f : List ℕ) where
-  pub of-time : fieldFine a 2 f ≡ isCount (readTime f)
+  pub of-time : fieldFine a 2 f ≡ isCount (readTimestamp f)
   unfolding fieldFine
   of-time = refl
 
@@ -117,25 +117,25 @@ module _ (l : Layout) (n : ℕ) (line : List ℕ) (f : FineLine l n line) where
       (fields-is (l .analogs) n (afterFields 1 line) 2 (1 + l .analogs + l .statuses)
       (λ j h. let q : 1 + j + 1 ≡ 2 + j = omega arith in rw (field-later, q) (field-is j h)))
 
-pub sample-at : (line : List ℕ) (i : ℕ) → sampleAt (afterFields 2 line) i ≡ sampleIn (fieldAt (3 + i) line)
+pub sample-at : (line : List ℕ) (i : ℕ) → fieldSample (afterFields 2 line) i ≡ sampleIn (fieldAt (3 + i) line)
 sample-at line i = let e : 2 + i + 1 ≡ 3 + i = omega arith in rw (field-later, e)
 
 module _ (l : Layout) (line : List ℕ) where
-  pub status-at : (i : ℕ) → statusAt (afterFields (2 + l .analogs) line) i ≡ statusIn (fieldAt (3 + l .analogs + i) line)
+  pub status-at : (i : ℕ) → fieldStatus (afterFields (2 + l .analogs) line) i ≡ statusIn (fieldAt (3 + l .analogs + i) line)
   status-at i = let e : 2 + l .analogs + i + 1 ≡ 3 + l .analogs + i = omega arith in rw (field-later, e)
 
   pub sample-there : (i : ℕ) → i < l .analogs → getD (rowOf l line .samples) i (pos 0) ≡ sampleIn (fieldAt (3 + i) line)
   unfolding rowOf
-  sample-there i h = getD-padded (sampleAt (afterFields 2 line)) (l .analogs) 96 i (pos 0) (pos 0) h ∙ sample-at line i
+  sample-there i h = getD-padded (fieldSample (afterFields 2 line)) (l .analogs) 96 i (pos 0) (pos 0) h ∙ sample-at line i
 
   pub status-there : (i : ℕ) → i < l .statuses → getD (rowOf l line .statuses) i false ≡ statusIn (fieldAt (3 + l .analogs + i) line)
   unfolding rowOf
-  status-there i h = getD-padded (statusAt (afterFields (2 + l .analogs) line)) (l .statuses) 256 i false false h ∙ status-at i
+  status-there i h = getD-padded (fieldStatus (afterFields (2 + l .analogs) line)) (l .statuses) 256 i false false h ∙ status-at i
 
   pub row-trimmed : trimmed l (rowOf l line) ≡ rowOf l line
   unfolding trimmed rowOf
   row-trimmed =
       rw (
-        padded-again (sampleAt (afterFields 2 line)) (l .analogs) 96 (pos 0),
-        padded-again (statusAt (afterFields (2 + l .analogs) line)) (l .statuses) 256 false,
+        padded-again (fieldSample (afterFields 2 line)) (l .analogs) 96 (pos 0),
+        padded-again (fieldStatus (afterFields (2 + l .analogs) line)) (l .statuses) 256 false,
       )

@@ -10,7 +10,7 @@ use Rattle.numerals.specs.declared.Count.{Count}
 use Rattle.numerals.specs.declared.Count.the-variants as count
 use Rattle.numerals.specs.declared.Whole.{Whole}
 use Rattle.numerals.specs.declared.Whole.the-variants as whole
-use Rattle.numerals.specs.Counts.{readCount}
+use Rattle.numerals.specs.Counts.{readCount, countIn}
 use Rattle.numerals.specs.Wholes.{readWhole}
 use Rattle.model.specs.declared.Kind.the-variants.{Ascii}
 use Rattle.model.specs.Kinds.{fitsKind}
@@ -22,17 +22,17 @@ atMost most (count.Is v) = if leb v most then count.Is v else count.Form
 atMost most count.Form = count.Form
 
 -- a timestamp: 1 to 13 digits, no later than the latest
-unfoldable pub readTime : List ℕ → Count
-readTime f = atMost latestTime (readCount 1 13 f)
+unfoldable pub readTimestamp : List ℕ → Count
+readTimestamp f = atMost latestTime (readCount 1 13 f)
 
 -- a whole number within the range of a text's samples; another is bad
-abbrev pub inRange : Whole → Whole
-inRange (whole.Is z) = if fitsKind Ascii z then whole.Is z else whole.Form
-inRange whole.Form = whole.Form
+abbrev pub sampleFit : Whole → Whole
+sampleFit (whole.Is z) = if fitsKind Ascii z then whole.Is z else whole.Form
+sampleFit whole.Form = whole.Form
 
 -- a sample: 1 to 13 characters, an optional sign and digits, within the range
 unfoldable pub readSample : List ℕ → Whole
-readSample f = inRange (readWhole f)
+readSample f = sampleFit (readWhole f)
 
 -- a status: exactly 0 or 1
 unfoldable pub isStatus : List ℕ → Bool
@@ -44,11 +44,6 @@ isStatus (b ∷ c ∷ f) = false
 abbrev pub isCount : Count → Bool
 isCount (count.Is v) = true
 isCount count.Form = false
-
--- the count that was read
-abbrev pub countIn : Count → ℕ
-countIn (count.Is v) = v
-countIn count.Form = 0
 
 -- whether a whole number was read
 abbrev pub isWhole : Whole → Bool
@@ -62,7 +57,7 @@ wholeIn whole.Form = pos 0
 
 -- the timestamp of a field
 unfoldable pub timeIn : List ℕ → ℕ
-timeIn f = countIn (readTime f)
+timeIn f = countIn (readTimestamp f)
 
 -- the sample of a field
 unfoldable pub sampleIn : List ℕ → ℤ

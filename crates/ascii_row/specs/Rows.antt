@@ -16,7 +16,7 @@ use Rattle.model.specs.declared.Layout.{Layout}
 use Rattle.model.specs.declared.Row.{Row}
 use Rattle.model.specs.declared.Refusal.{Refusal}
 use Rattle.model.specs.Refusals.{refused}
-use Rattle.ascii_row.specs.Fields.{readTime, readSample, isStatus, isCount, isWhole, timeIn, sampleIn, statusIn}
+use Rattle.ascii_row.specs.Fields.{readTimestamp, readSample, isStatus, isCount, isWhole, timeIn, sampleIn, statusIn}
 
 -- the fields of a row: number, timestamp, samples, statuses
 abbrev pub fieldsOf : Layout → ℕ
@@ -30,7 +30,7 @@ field n k Form = refuses (refused 14 n k)
 -- field k, from the second on, of a row with a samples: the timestamp, a sample, or a status
 unfoldable pub fieldFine : ℕ → ℕ → List ℕ → Bool
 fieldFine a k f =
-    if eqb k 2 then isCount (readTime f)
+    if eqb k 2 then isCount (readTimestamp f)
     else if leb k (2 + a) then isWhole (readSample f)
     else isStatus f
 
@@ -55,18 +55,18 @@ checkLine l n line = do
   checkFields (l .analogs) n (afterFields 1 line) 2 (1 + l .analogs + l .statuses)
 
 -- sample i of fields that are samples
-abbrev pub sampleAt : List ℕ → ℕ → ℤ
-sampleAt t i = sampleIn (fieldAt (i + 1) t)
+abbrev pub fieldSample : List ℕ → ℕ → ℤ
+fieldSample t i = sampleIn (fieldAt (i + 1) t)
 
 -- status i of fields that are statuses
-abbrev pub statusAt : List ℕ → ℕ → Bool
-statusAt t i = statusIn (fieldAt (i + 1) t)
+abbrev pub fieldStatus : List ℕ → ℕ → Bool
+fieldStatus t i = statusIn (fieldAt (i + 1) t)
 
 -- the row that a line says; its number is left to the check
 unfoldable pub rowOf : Layout → List ℕ → Row
 rowOf l line =
     record {
       time = timeIn (fieldAt 2 line);
-      samples = padded (sampleAt (afterFields 2 line)) (l .analogs) 96 (pos 0);
-      statuses = padded (statusAt (afterFields (2 + l .analogs) line)) (l .statuses) 256 false;
+      samples = padded (fieldSample (afterFields 2 line)) (l .analogs) 96 (pos 0);
+      statuses = padded (fieldStatus (afterFields (2 + l .analogs) line)) (l .statuses) 256 false;
     }

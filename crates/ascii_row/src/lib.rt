@@ -15,15 +15,15 @@ ghost use Rattle.ground.specs.Tables.{tab, padded};
 ghost use Rattle.text.specs.Fields.{fieldAt};
 ghost use Rattle.model.specs.Layouts.{Sized};
 ghost use Rattle.model.specs.Refusals.{answerOf};
-ghost use Rattle.ascii_row.specs.Fields.{readTime, readSample, isStatus, isCount, isWhole, timeIn, sampleIn, statusIn};
-ghost use Rattle.ascii_row.specs.Rows.{fieldFine, checkFields, checkNumber, checkLine, sampleAt, statusAt, rowOf};
+ghost use Rattle.ascii_row.specs.Fields.{readTimestamp, readSample, isStatus, isCount, isWhole, timeIn, sampleIn, statusIn};
+ghost use Rattle.ascii_row.specs.Rows.{fieldFine, checkFields, checkNumber, checkLine, fieldSample, fieldStatus, rowOf};
 
 // The highest timestamp, as counts are.
 pub const LATEST: u64 = Row::LATEST as u64;
 
 // A timestamp.
-fn read_time(field: &[u8]) -> Count
-    ensures { λ r. ⌜ r ≡ readTime (now (field .entry)) ⌝ }
+fn read_timestamp(field: &[u8]) -> Count
+    ensures { λ r. ⌜ r ≡ readTimestamp (now (field .entry)) ⌝ }
 {
     match numerals::read_count(field, 1, 13) {
         Count::Is(v) => {
@@ -54,9 +54,9 @@ fn read_sample(field: &[u8]) -> Whole
 
 // Whether a field is a timestamp.
 fn is_time(field: &[u8]) -> bool
-    ensures { λ r. ⌜ r ≡ isCount (readTime (now (field .entry))) ⌝ }
+    ensures { λ r. ⌜ r ≡ isCount (readTimestamp (now (field .entry))) ⌝ }
 {
-    match read_time(field) {
+    match read_timestamp(field) {
         Count::Is(_) => true,
         Count::Form => false,
     }
@@ -90,7 +90,7 @@ fn is_status(field: &[u8]) -> bool
 fn time_in(field: &[u8]) -> u32
     ensures { λ r. ⌜ r ≡ timeIn (now (field .entry)) ⌝ }
 {
-    match read_time(field) {
+    match read_timestamp(field) {
         Count::Is(v) => v as u32,
         Count::Form => 0,
     }
@@ -183,7 +183,7 @@ pub fn check_line(layout: Layout, n: u32, line: &[u8]) -> Answer
 
 // The samples of the fields fill the slice.
 fn read_samples(fields: &[u8], d: &mut [i32])
-    ensures { λ _. ⌜ now (d .exit) ≡ tab (sampleAt (now (fields .entry))) (length (now (d .entry))) ⌝ }
+    ensures { λ _. ⌜ now (d .exit) ≡ tab (fieldSample (now (fields .entry))) (length (now (d .entry))) ⌝ }
 {
     let mut t = fields;
     let mut i = 0;
@@ -198,7 +198,7 @@ fn read_samples(fields: &[u8], d: &mut [i32])
 
 // The statuses of the fields fill the slice.
 fn read_statuses(fields: &[u8], d: &mut [bool])
-    ensures { λ _. ⌜ now (d .exit) ≡ tab (statusAt (now (fields .entry))) (length (now (d .entry))) ⌝ }
+    ensures { λ _. ⌜ now (d .exit) ≡ tab (fieldStatus (now (fields .entry))) (length (now (d .entry))) ⌝ }
 {
     let mut t = fields;
     let mut i = 0;
@@ -214,7 +214,7 @@ fn read_statuses(fields: &[u8], d: &mut [bool])
 // The a samples of the fields, and zeros.
 fn samples_of(fields: &[u8], a: usize) -> [i32; 96]
     requires { ⌜ a ≤ 96 ⌝ }
-    ensures { λ r. ⌜ r ≡ padded (sampleAt (now (fields .entry))) a 96 (pos 0) ⌝ }
+    ensures { λ r. ⌜ r ≡ padded (fieldSample (now (fields .entry))) a 96 (pos 0) ⌝ }
 {
     let mut out = [0i32; 96];
     read_samples(fields, &mut out[..a]);
@@ -224,7 +224,7 @@ fn samples_of(fields: &[u8], a: usize) -> [i32; 96]
 // The d statuses of the fields, and zeros.
 fn statuses_of(fields: &[u8], d: usize) -> [bool; 256]
     requires { ⌜ d ≤ 256 ⌝ }
-    ensures { λ r. ⌜ r ≡ padded (statusAt (now (fields .entry))) d 256 false ⌝ }
+    ensures { λ r. ⌜ r ≡ padded (fieldStatus (now (fields .entry))) d 256 false ⌝ }
 {
     let mut out = [false; 256];
     read_statuses(fields, &mut out[..d]);

@@ -6,7 +6,7 @@
 --     next-time, next-sample, next-status       so it is the next field
 --     passed-on                                 one field more is passed
 --     passed-status, passed-four                so are one status more, and four
---     row-there                                 a number, fields that were passed and CR LF are a row
+--     row-walked                                a number, fields that were passed and CR LF are a row
 -- Assumes nothing.
 use mathlib.Core.Path.{_≡_, refl, sym, _∙_}
 use mathlib.Core.Bool.{Bool, true}
@@ -221,10 +221,10 @@ module _ (a : ℕ) (s : List ℕ) (at : ℕ) where
       let z = passed-status (k + 1 + 1) y (rw f at (t .three)) in
       rw h at (passed-status (k + 1 + 1 + 1) z (rw g at (t .four)))
 
-pub row-there : (l : Layout) (n : ℕ) (s : List ℕ) (b t r e : ℕ) → CountThere 10 s 0 b n → Next (l .analogs) s 2 b t
+pub row-walked : (l : Layout) (n : ℕ) (s : List ℕ) (b t r e : ℕ) → CountThere 10 s 0 b n → Next (l .analogs) s 2 b t
     → Passed (l .analogs) s 2 t (l .analogs) r → Passed (l .analogs) s (2 + l .analogs) r (l .statuses) e
     → e + 1 < length s → e ≤ 1880 → getD s e 0 ≡ 13 → getD s (e + 1) 0 ≡ 10 → RowThere l n s (e + 2)
-row-there l n s b t r e number time samples statuses w m cr lf =
+row-walked l n s b t r e number time samples statuses w m cr lf =
     let a = l .analogs in
     let k : e ≤ length s = omega arith in
     let u : Tail a n (2 + a + l .statuses) 0 (part e e s) = rw (part-none e s) (tail-none a n (2 + a + l .statuses)) in

@@ -10,7 +10,7 @@ use Rattle.ground.specs.Said.{says}
 use Rattle.text.specs.declared.Scanned.the-variants.{Line}
 use Rattle.text.specs.Lines.{scanLine}
 use Rattle.model.specs.declared.Layout.{Layout}
-use Rattle.ascii_row.specs.Fields.{readTime, readSample, isStatus, isCount, isWhole}
+use Rattle.ascii_row.specs.Fields.{readTimestamp, readSample, isStatus, isCount, isWhole}
 use Rattle.ascii_row.specs.Rows.{fieldFine, checkLine}
 
 -- from place i, where a comma stands, to place j a field is passed, and the test holds of it
@@ -22,7 +22,7 @@ pub record FieldThere (test : List ℕ → Bool) (s : List ℕ) (i j : ℕ) : Ty
 
 -- the field is a timestamp
 abbrev pub TimeThere : List ℕ → ℕ → ℕ → Type 0
-TimeThere s i j = FieldThere (λ f. isCount (readTime f)) s i j
+TimeThere s i j = FieldThere (λ f. isCount (readTimestamp f)) s i j
 
 -- the field is a sample
 abbrev pub SampleThere : List ℕ → ℕ → ℕ → Type 0

@@ -1,6 +1,6 @@
 -- Laws of samples and statuses between a row and its bytes.
 --     length-samples, length-words, bytes-samples, bytes-words     the bytes of samples and of status words
---     sample-read, status-read                  what was written is read
+--     sample-bytes-read, status-read            what was written is read
 --     padding-read                              what was written has no padding bit
 --     samples-written, words-written            what was read is written as it was
 -- Assumes nothing.
@@ -27,7 +27,7 @@ use Rattle.words.specs.Words.{wordOf, isByte}
 use Rattle.words.specs.Signed.{half, signedOf}
 use Rattle.words.proofs.WordLaws.{bytes-part, part-word, wordOf-part-lt, length-wordBytes, bytes-wordBytes, word-back}
 use Rattle.words.proofs.SignedLaws.{sample-back, sample-bytes-back}
-use Rattle.binary_row.specs.Rows.{wordsOf, sampleAt, wordAt, statusAt, paddingFree}
+use Rattle.binary_row.specs.Rows.{wordsOf, bytesSample, wordAt, wordStatus, paddingFree}
 use Rattle.binary_bytes.specs.Rows.{packed, wordEnd, sampleBytes, wordBytesAt, samplesBytes, wordsBytes}
 use Rattle.ground.proofs.Filled.{part-padded, getD-padded}
 use Rattle.binary_row.proofs.BitLaws.{word-statuses}
@@ -41,20 +41,20 @@ pub bytes-samples : (w h a : ℕ) (zs : List ℤ) → every isByte (samplesBytes
 bytes-samples w h a zs = every-cat isByte (sampleBytes w h zs) a (λ i l. bytes-wordBytes w _)
 
 module _ (w : ℕ) (some : 1 ≤ w) where
-  pub sample-read : (a : ℕ) (zs : List ℤ) (i : ℕ) → i < a → mag (getD zs i (pos 0)) < half w
-      → sampleAt w (half w) (samplesBytes w (half w) a zs) i ≡ getD zs i (pos 0)
-  sample-read a zs i h f =
+  pub sample-bytes-read : (a : ℕ) (zs : List ℤ) (i : ℕ) → i < a → mag (getD zs i (pos 0)) < half w
+      → bytesSample w (half w) (samplesBytes w (half w) a zs) i ≡ getD zs i (pos 0)
+  sample-bytes-read a zs i h f =
       ap (λ (l : List ℕ). signedOf (half w) (wordOf l)) (part-cat (sampleBytes w (half w) zs) w (λ j. length-wordBytes w _) a i h)
       ∙ sample-back w (getD zs i (pos 0)) some f
 
   pub samples-written : (a n : ℕ) (b : List ℕ) → length b ≡ a * w → every isByte b ≡ true
-      → samplesBytes w (half w) a (padded (sampleAt w (half w) b) a n (pos 0)) ≡ b
+      → samplesBytes w (half w) a (padded (bytesSample w (half w) b) a n (pos 0)) ≡ b
   samples-written a n b e h =
-      cat-ext (sampleBytes w (half w) (padded (sampleAt w (half w) b) a n (pos 0))) (λ i. part (i * w) (i * w + w) b) a
+      cat-ext (sampleBytes w (half w) (padded (bytesSample w (half w) b) a n (pos 0))) (λ i. part (i * w) (i * w + w) b) a
       (λ i l.
       let r : i * w + w ≤ length b = rw e (block-end i a w l) in
       let k : length (part (i * w) (i * w + w) b) ≡ w = length-part (i * w) (i * w + w) b r ∙ omega arith in
-      rw (getD-padded (sampleAt w (half w) b) a n i (pos 0) (pos 0) l)
+      rw (getD-padded (bytesSample w (half w) b) a n i (pos 0) (pos 0) l)
       (sample-bytes-back w (part (i * w) (i * w + w) b) some k (bytes-part (i * w) (i * w + w) b h)))
       ∙ cat-part b w a e
 
@@ -77,7 +77,7 @@ module _ (d : ℕ) where
       ap wordOf (part-cat (wordBytesAt d s) 2 (λ i. length-wordBytes 2 _) (wordsOf d) j h)
       ∙ word-back 2 (packed (part (j * 16) (wordEnd d j) s)) (packed-small s j 16 (omega arith))
 
-  pub status-read : (s : List Bool) (i : ℕ) → i < d → statusAt (wordsBytes d s) i ≡ getD s i false
+  pub status-read : (s : List Bool) (i : ℕ) → i < d → wordStatus (wordsBytes d s) i ≡ getD s i false
   status-read s i h =
       let q : i % 16 < wordEnd d (i / 16) - i / 16 * 16 = omega arith in
       let e : i / 16 * 16 + i % 16 ≡ i = omega arith in
@@ -115,12 +115,12 @@ module _ (d : ℕ) where
       (lt-or-ge d (j * 16 + 16))
 
   pub words-written : (n : ℕ) (b : List ℕ) → length b ≡ 2 * wordsOf d → every isByte b ≡ true → paddingFree d b ≡ true
-      → wordsBytes d (padded (statusAt b) d n false) ≡ b
+      → wordsBytes d (padded (wordStatus b) d n false) ≡ b
   words-written n b e h p =
-      cat-ext (wordBytesAt d (padded (statusAt b) d n false)) (λ j. part (j * 2) (j * 2 + 2) b) (wordsOf d)
+      cat-ext (wordBytesAt d (padded (wordStatus b) d n false)) (λ j. part (j * 2) (j * 2 + 2) b) (wordsOf d)
       (λ j l.
       rw (
-        part-padded (statusAt b) (j * 16) (wordEnd d j) d n false (omega arith) (omega arith),
+        part-padded (wordStatus b) (j * 16) (wordEnd d j) d n false (omega arith) (omega arith),
         ← word-statuses b j (wordEnd d j - j * 16) (omega arith),
         packed-bits (wordEnd d j - j * 16) (wordAt b j) (word-small b j h p l),
       )

@@ -2,7 +2,7 @@
 --     length-row, bytes-row         the bytes of a row have the size of a row, and are bytes
 --     row-back                      reading what was written gives the row, with its places past A and D zero
 --     row-fine                      what was written has its number, and no padding bit
---     bytes-back                    writing what was read gives the bytes, where the check finds nothing wrong
+--     row-bytes-back                writing what was read gives the bytes, where the check finds nothing wrong
 --     unread-bytes                  places past A and D are not written
 -- Assumes nothing.
 use mathlib.Core.Path.{_≡_, refl, sym, ap, _∙_}
@@ -27,14 +27,14 @@ use Rattle.model.specs.declared.Row.{Row}
 use Rattle.model.specs.Kinds.{widthOf, halfOf}
 use Rattle.model.specs.Rows.{trimmed, misfit}
 use Rattle.model.proofs.KindLaws.{fits-size, width-pos}
-use Rattle.binary_row.specs.Rows.{wordsOf, samplesEnd, rowSize, samplesPart, wordsPart, sampleAt, statusAt, checkRow, rowOf}
+use Rattle.binary_row.specs.Rows.{wordsOf, samplesEnd, rowSize, samplesPart, wordsPart, bytesSample, wordStatus, checkRow, rowOf}
 use Rattle.binary_bytes.specs.Rows.{packed, wordEnd, wordBytesAt, samplesBytes, wordsBytes, headBytes, binaryOf}
 use Rattle.ground.proofs.Filled.{getD-padded, part-filled, parts-join}
 use Rattle.model.proofs.FitLaws.{misfit-all}
 use Rattle.binary_row.proofs.RowLaws.{check-told}
 use Rattle.binary_row.proofs.SizeLaws.{sizes, samples-length, words-length}
 use Rattle.words.proofs.WordLaws.{bytes-part, part-word}
-use Rattle.binary_bytes.proofs.ChannelLaws.{length-samples, length-words, bytes-samples, bytes-words, sample-read, status-read, padding-read, samples-written, words-written}
+use Rattle.binary_bytes.proofs.ChannelLaws.{length-samples, length-words, bytes-samples, bytes-words, sample-bytes-read, status-read, padding-read, samples-written, words-written}
 
 length-head : (n t : ℕ) → length (headBytes n t) ≡ 8
 length-head n t = length-append (wordBytes 4 n) (wordBytes 4 t) ∙ omega (arith, length-wordBytes 4 n, length-wordBytes 4 t)
@@ -104,24 +104,24 @@ module _ (l : Layout) (n : ℕ) (r : Row) where
   unfolding rowOf trimmed
   row-back f t =
       let k = l .kind in
-      let read = sample-read (widthOf k) (width-pos k) (l .analogs) (r .samples) in
+      let read = sample-bytes-read (widthOf k) (width-pos k) (l .analogs) (r .samples) in
       let fit = misfit-all k (r .samples) (l .analogs) f in
       rw (
         time-part,
         samples-part,
         words-part,
         word-back 4 (r .time) t,
-        tab-ext (sampleAt (widthOf k) (halfOf k) samples) (λ i. getD (r .samples) i (pos 0)) (l .analogs) (λ i h. read i h (fits-size k (getD (r .samples) i (pos 0)) (fit i h))),
-        tab-ext (statusAt statuses) (λ i. getD (r .statuses) i false) (l .statuses) (status-read (l .statuses) (r .statuses)),
+        tab-ext (bytesSample (widthOf k) (halfOf k) samples) (λ i. getD (r .samples) i (pos 0)) (l .analogs) (λ i h. read i h (fits-size k (getD (r .samples) i (pos 0)) (fit i h))),
+        tab-ext (wordStatus statuses) (λ i. getD (r .statuses) i false) (l .statuses) (status-read (l .statuses) (r .statuses)),
       )
 
   pub row-fine : n < 2 ^ 32 → checkRow l n (binaryOf l n r) ≡ says tt
   unfolding checkRow
   row-fine b = rw (number-part, eq-eqb (wordOf (wordBytes 4 n)) n (word-back 4 n b), words-part, padding-read (l .statuses) (r .statuses))
 
-pub bytes-back : (l : Layout) (n : ℕ) (b : List ℕ) → length b ≡ rowSize l → every isByte b ≡ true → checkRow l n b ≡ says tt → binaryOf l n (rowOf l b) ≡ b
+pub row-bytes-back : (l : Layout) (n : ℕ) (b : List ℕ) → length b ≡ rowSize l → every isByte b ≡ true → checkRow l n b ≡ says tt → binaryOf l n (rowOf l b) ≡ b
 unfolding binaryOf rowOf
-bytes-back l n b long bytes e =
+row-bytes-back l n b long bytes e =
     let s = sizes l in
     let f = check-told l n b e in
     let k = l .kind in

@@ -25,7 +25,7 @@ use Rattle.model.specs.Layouts.{Sized}
 use Rattle.model.specs.Rows.{misfit, trimmed}
 use Rattle.binary_row.specs.Rows.{rowSize, checkRow}
 use Rattle.binary_bytes.specs.Rows.{binaryOf}
-use Rattle.binary_bytes.proofs.RowLaws.{length-row, row-back, row-fine, bytes-back}
+use Rattle.binary_bytes.proofs.RowLaws.{length-row, row-back, row-fine, row-bytes-back}
 use Rattle.binary_file.specs.Files.{rowBytes, checkRows, checkBinary, binaryRow}
 use Rattle.binary_file.specs.Inner.{binaryFile}
 use Rattle.binary_file.proofs.Laws.{row-length, whole}
@@ -68,7 +68,7 @@ module _ (l : Layout) (s : List ℕ) (fine : checkBinary l s ≡ says tt) (bytes
   row-there i h =
       let w = whole l s fine in
       let z : 0 + i ≡ i = omega arith in
-      bytes-back l (i + 1) (rowBytes l i s) (row-length l s i (w .0) h) (bytes-part (i * rowSize l) (i * rowSize l + rowSize l) s bytes)
+      row-bytes-back l (i + 1) (rowBytes l i s) (row-length l s i (w .0) h) (bytes-part (i * rowSize l) (i * rowSize l + rowSize l) s bytes)
       (rw z at (rows-told 0 (l .rows) (w .1) i h))
 
   pub binary-back : binaryFile l (λ i. binaryRow l i s) ≡ s

@@ -14,7 +14,7 @@ use lib.Dec.{eqb}
 use lib.Pow.{pow-add, pow-pos, pow-mono}
 use Rattle.ground.specs.Tables.{tab}
 use Rattle.ground.proofs.Tables.{tab-ext}
-use Rattle.binary_row.specs.Rows.{bitOf, wordAt, statusAt}
+use Rattle.binary_row.specs.Rows.{bitOf, wordAt, wordStatus}
 
 pub low-bit : (n : ℕ) → bitAnd n 1 ≡ n % 2
 low-bit n = and-mask n 1
@@ -31,9 +31,9 @@ mask-test n k b h =
     let small : n / 2 ^ k < 2 ^ 16 = lt-of-le-of-lt (div-le-self n (2 ^ k)) b in
     rw (e, and-high n 16 k, mod-eq-of-lt small) (scaled-zero (n / 2 ^ k) (2 ^ k) (pow-pos k))
 
-pub word-statuses : (b : List ℕ) (j k : ℕ) → k ≤ 16 → tab (bitOf (wordAt b j)) k ≡ tab (λ i. statusAt b (j * 16 + i)) k
+pub word-statuses : (b : List ℕ) (j k : ℕ) → k ≤ 16 → tab (bitOf (wordAt b j)) k ≡ tab (λ i. wordStatus b (j * 16 + i)) k
 word-statuses b j k h =
-    tab-ext (bitOf (wordAt b j)) (λ i. statusAt b (j * 16 + i)) k
+    tab-ext (bitOf (wordAt b j)) (λ i. wordStatus b (j * 16 + i)) k
     (λ i l.
     let q : (j * 16 + i) / 16 ≡ j = omega arith in
     let m : (j * 16 + i) % 16 ≡ i = omega arith in

@@ -22,26 +22,26 @@ use Rattle.model.specs.Kinds.{widthOf, halfOf}
 use Rattle.model.specs.Refusals.{refused}
 use Rattle.model.specs.Rows.{trimmed, misfit}
 use Rattle.model.proofs.KindLaws.{kind-half-twice}
-use Rattle.binary_row.specs.Rows.{samplesEnd, numberOfRow, samplesPart, wordsPart, sampleAt, statusAt, paddingFree, checkRow, rowOf}
+use Rattle.binary_row.specs.Rows.{samplesEnd, rowNumber, samplesPart, wordsPart, bytesSample, wordStatus, paddingFree, checkRow, rowOf}
 use Rattle.ground.proofs.Filled.{getD-padded, padded-again}
 use Rattle.model.proofs.KindLaws.{size-fits}
 use Rattle.model.proofs.FitLaws.{all-misfit}
 use Rattle.words.proofs.WordLaws.{bytes-part}
 
-pub check-told : (l : Layout) (n : ℕ) (b : List ℕ) → checkRow l n b ≡ says tt → (numberOfRow b ≡ n) × (paddingFree (l .statuses) (wordsPart l b) ≡ true)
+pub check-told : (l : Layout) (n : ℕ) (b : List ℕ) → checkRow l n b ≡ says tt → (rowNumber b ≡ n) × (paddingFree (l .statuses) (wordsPart l b) ≡ true)
 unfolding checkRow
 check-told l n b e =
-    let number = eqb (numberOfRow b) n in
+    let number = eqb (rowNumber b) n in
     let free = paddingFree (l .statuses) (wordsPart l b) in
     let t = must-told number (refused 12 n 1) (must free (refused 13 n 0)) tt e in
-    (eqb-true (numberOfRow b) n (t .0), must-holds free (refused 13 n 0) (t .1))
+    (eqb-true (rowNumber b) n (t .0), must-holds free (refused 13 n 0) (t .1))
 
 pub row-fits : (l : Layout) (b : List ℕ) → every isByte b ≡ true → misfit (l .kind) (rowOf l b .samples) (l .analogs) ≡ l .analogs
 unfolding rowOf
 row-fits l b h =
     let k = l .kind in
     let p = samplesPart l b in
-    let g = sampleAt (widthOf k) (halfOf k) p in
+    let g = bytesSample (widthOf k) (halfOf k) p in
     all-misfit k (padded g (l .analogs) 96 (pos 0)) (l .analogs)
     (λ i q.
     let u : wordOf (part (i * widthOf k) (i * widthOf k + widthOf k) p) < halfOf k + halfOf k
@@ -53,6 +53,6 @@ unfolding trimmed rowOf
 row-trimmed l b =
     let k = l .kind in
     rw (
-      padded-again (sampleAt (widthOf k) (halfOf k) (samplesPart l b)) (l .analogs) 96 (pos 0),
-      padded-again (statusAt (wordsPart l b)) (l .statuses) 256 false,
+      padded-again (bytesSample (widthOf k) (halfOf k) (samplesPart l b)) (l .analogs) 96 (pos 0),
+      padded-again (wordStatus (wordsPart l b)) (l .statuses) 256 false,
     )

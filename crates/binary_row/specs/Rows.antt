@@ -28,12 +28,12 @@ unfoldable pub rowSize : Layout → ℕ
 rowSize l = samplesEnd l + 2 * wordsOf (l .statuses)
 
 -- the number of a row
-abbrev pub numberOfRow : List ℕ → ℕ
-numberOfRow b = wordOf (part 0 4 b)
+abbrev pub rowNumber : List ℕ → ℕ
+rowNumber b = wordOf (part 0 4 b)
 
 -- the timestamp of a row
-abbrev pub timeOfRow : List ℕ → ℕ
-timeOfRow b = wordOf (part 4 8 b)
+abbrev pub rowTime : List ℕ → ℕ
+rowTime b = wordOf (part 4 8 b)
 
 -- the samples of a row
 abbrev pub samplesPart : Layout → List ℕ → List ℕ
@@ -44,8 +44,8 @@ abbrev pub wordsPart : Layout → List ℕ → List ℕ
 wordsPart l b = part (samplesEnd l) (rowSize l) b
 
 -- sample i of samples of w bytes, in two's complement with half h
-abbrev pub sampleAt : ℕ → ℕ → List ℕ → ℕ → ℤ
-sampleAt w h b i = signedOf h (wordOf (part (i * w) (i * w + w) b))
+abbrev pub bytesSample : ℕ → ℕ → List ℕ → ℕ → ℤ
+bytesSample w h b i = signedOf h (wordOf (part (i * w) (i * w + w) b))
 
 -- status word j of status words
 abbrev pub wordAt : List ℕ → ℕ → ℕ
@@ -56,8 +56,8 @@ abbrev pub bitOf : ℕ → ℕ → Bool
 bitOf n i = eqb (n / 2 ^ i % 2) 1
 
 -- status i of status words: sixteen to a word, from the lowest bit up
-abbrev pub statusAt : List ℕ → ℕ → Bool
-statusAt b i = bitOf (wordAt b (i / 16)) (i % 16)
+abbrev pub wordStatus : List ℕ → ℕ → Bool
+wordStatus b i = bitOf (wordAt b (i / 16)) (i % 16)
 
 -- the bits past d statuses are zero; there are none where the statuses fill their words
 abbrev pub paddingFree : ℕ → List ℕ → Bool
@@ -66,14 +66,14 @@ paddingFree d b = if eqb (d % 16) 0 then true else eqb (wordAt b (d / 16) / 2 ^ 
 -- the bytes of row n: its number, which is field 1, and then its padding, which is no field's
 unfoldable pub checkRow : Layout → ℕ → List ℕ → Said Refusal (Unit {0})
 checkRow l n b = do
-  must (eqb (numberOfRow b) n) (refused 12 n 1)
+  must (eqb (rowNumber b) n) (refused 12 n 1)
   must (paddingFree (l .statuses) (wordsPart l b)) (refused 13 n 0)
 
 -- the row that bytes are; its number is left to the check
 unfoldable pub rowOf : Layout → List ℕ → Row
 rowOf l b =
     record {
-      time = timeOfRow b;
-      samples = padded (sampleAt (widthOf (l .kind)) (halfOf (l .kind)) (samplesPart l b)) (l .analogs) 96 (pos 0);
-      statuses = padded (statusAt (wordsPart l b)) (l .statuses) 256 false;
+      time = rowTime b;
+      samples = padded (bytesSample (widthOf (l .kind)) (halfOf (l .kind)) (samplesPart l b)) (l .analogs) 96 (pos 0);
+      statuses = padded (wordStatus (wordsPart l b)) (l .statuses) 256 false;
     }

@@ -13,7 +13,7 @@ ghost use Rattle.ground.specs.Tables.{tab, padded};
 ghost use Rattle.model.specs.Kinds.{widthOf, halfOf};
 ghost use Rattle.model.specs.Layouts.{Sized};
 ghost use Rattle.model.specs.Refusals.{answerOf};
-ghost use Rattle.binary_row.specs.Rows.{wordsOf, samplesEnd, rowSize, sampleAt, bitOf, statusAt, paddingFree, timeOfRow, checkRow, rowOf};
+ghost use Rattle.binary_row.specs.Rows.{wordsOf, samplesEnd, rowSize, bytesSample, bitOf, wordStatus, paddingFree, rowTime, checkRow, rowOf};
 
 // Bytes of a row's number, and of its timestamp.
 pub const NUMBER: usize = 4;
@@ -91,7 +91,7 @@ pub fn check_row(layout: Layout, n: u32, bytes: &[u8]) -> Answer
 // The a samples of the bytes, and zeros.
 fn samples_of(kind: Kind, a: usize, b: &[u8]) -> [i32; 96]
     requires { ⌜ (a ≤ 96) × (length (now b) ≡ a * widthOf kind) ⌝ }
-    ensures { λ r. ⌜ r ≡ padded (sampleAt (widthOf kind) (halfOf kind) (now (b .entry))) a 96 (pos 0) ⌝ }
+    ensures { λ r. ⌜ r ≡ padded (bytesSample (widthOf kind) (halfOf kind) (now (b .entry))) a 96 (pos 0) ⌝ }
 {
     let width = kind.width();
     let half = kind.half();
@@ -122,7 +122,7 @@ fn unpack_word(word: u32, d: &mut [bool])
 // The statuses of the words fill the slice; each word is read once.
 fn unpack_words(b: &[u8], d: &mut [bool])
     requires { ⌜ (length (now d) ≤ 256) × (length (now b) ≡ 2 * wordsOf (length (now d))) ⌝ }
-    ensures { λ _. ⌜ now (d .exit) ≡ tab (statusAt (now (b .entry))) (length (now (d .entry))) ⌝ }
+    ensures { λ _. ⌜ now (d .exit) ≡ tab (wordStatus (now (b .entry))) (length (now (d .entry))) ⌝ }
 {
     let n = d.len();
     let words = b.len() / WORD;
@@ -141,7 +141,7 @@ fn unpack_words(b: &[u8], d: &mut [bool])
 // The d statuses of the words, and zeros.
 fn statuses_of(d: usize, b: &[u8]) -> [bool; 256]
     requires { ⌜ (d ≤ 256) × (length (now b) ≡ 2 * wordsOf d) ⌝ }
-    ensures { λ r. ⌜ r ≡ padded (statusAt (now (b .entry))) d 256 false ⌝ }
+    ensures { λ r. ⌜ r ≡ padded (wordStatus (now (b .entry))) d 256 false ⌝ }
 {
     let mut out = [false; 256];
     unpack_words(b, &mut out[..d]);
@@ -149,9 +149,9 @@ fn statuses_of(d: usize, b: &[u8]) -> [bool; 256]
 }
 
 // The timestamp of a row.
-pub fn time_of(bytes: &[u8]) -> u32
+pub fn row_time(bytes: &[u8]) -> u32
     requires { ⌜ 8 ≤ length (now bytes) ⌝ }
-    ensures { λ r. ⌜ r ≡ timeOfRow (now (bytes .entry)) ⌝ }
+    ensures { λ r. ⌜ r ≡ rowTime (now (bytes .entry)) ⌝ }
 {
     words::word_of(&bytes[NUMBER..HEAD])
 }
@@ -175,7 +175,7 @@ pub fn row_of(layout: Layout, bytes: &[u8]) -> Row
     let d = layout.statuses as usize;
     let mid = samples_end(layout);
     let end = bytes.len();
-    let time = time_of(bytes);
+    let time = row_time(bytes);
     let samples = row_samples(layout, bytes);
     let statuses = statuses_of(d, &bytes[mid..end]);
     Row {

@@ -44,7 +44,7 @@ use Rattle.data.specs.Files.{fileFine, rowAt, hasRow, misfitOf, checkFile, rowA
 use Rattle.data.proofs.Laws.{row-told, writable}
 use Rattle.change.specs.Change.{changeSaid}
 use Rattle.change_length.specs.Needed.{fitRows, changed, bytesNeeded}
-use Rattle.change.proofs.ChangeLaws.{change-needs, ready}
+use Rattle.change.proofs.ChangeLaws.{change-needs, changing}
 use Rattle.row_places.specs.Rows.{placesOf, rowPlaces, unfit, rowOfPlaces}
 use Rattle.config_places.specs.Configs.{configPlaces}
 use Rattle.config_places.proofs.ConfigLaws.{config-places}
@@ -95,7 +95,7 @@ write-within : (l : Layout) (n : ℕ) (r : Row) → Within (writeSaid l n r)
 write-within l n r room new e = writable l n r room new e .within
 
 change-within : (l : Layout) (s : List ℕ) (k : Kind) → Within (changeSaid l s k)
-change-within l s k room new e = ready l s k room new e .within
+change-within l s k room new e = changing l s k room new e .within
 
 reason-within : (n : ℕ) → Within (reasonSaid n)
 unfolding reasonSaid textSaid

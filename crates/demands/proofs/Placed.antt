@@ -37,13 +37,13 @@ use Rattle.config.specs.Reading as reading
 use Rattle.config.specs.Reading.{Place, saidOf, inLine, scanned, line, lastLine, times}
 use Rattle.config.specs.Config.{lastRows, size, nothingMore, configuration}
 use Rattle.binary_row.specs.Rows as binary
-use Rattle.binary_row.specs.Rows.{rowSize, numberOfRow, wordsPart, paddingFree}
+use Rattle.binary_row.specs.Rows.{rowSize, rowNumber, wordsPart, paddingFree}
 use Rattle.binary_file.specs.Files as binary_file
 use Rattle.binary_file.specs.Files.{rowBytes, checkLength, checkBinary}
 use Rattle.ascii_row.specs.Rows as ascii
 use Rattle.ascii_row.specs.Rows.{fieldFine, fieldsOf, checkFields, checkNumber, checkLine}
 use Rattle.ascii_file.specs.Files as ascii_file
-use Rattle.ascii_file.specs.Files.{scanRow, found, checkRow, isEnding, checkText}
+use Rattle.ascii_file.specs.Files.{scanRow, found, takeRow, isEnding, checkText}
 use Rattle.row_bytes.specs.Rows.{byKind}
 use Rattle.data.specs.Files.{fileFine, misfitOf}
 use Rattle.change_length.specs.Needed.{fitRow, fitRows}
@@ -97,7 +97,7 @@ PlacedTo most r = Placed r × (r .number ≤ most)
 row-placed : (l : Layout) (n : ℕ) (b : List ℕ) → 1 ≤ n → RefusesOnly (PlacedTo 16) (binary.checkRow l n b)
 unfolding binary.checkRow
 row-placed l n b h =
-    let number = eqb (numberOfRow b) n in
+    let number = eqb (rowNumber b) n in
     let free = paddingFree (l .statuses) (wordsPart l b) in
     only-then (PlacedTo 16) (must number (refused 12 n 1)) (must free (refused 13 n 0))
     (only-must (PlacedTo 16) number (refused 12 n 1) (λ e. (row-number n h, lit≤ tt)))
@@ -152,17 +152,17 @@ module _ (n : ℕ) (h : 1 ≤ n) where
   text-found Ends = (row-ends n h, lit≤ tt)
   text-found Bad = (row-text n 0 h, lit≤ tt)
 
-  text-row : (l : Layout) (s : List ℕ) → RefusesOnly (PlacedTo 16) (checkRow l n s)
-  unfolding checkRow
+  text-row : (l : Layout) (s : List ℕ) → RefusesOnly (PlacedTo 16) (takeRow l n s)
+  unfolding takeRow
   text-row l s =
       only-bind (PlacedTo 16) (found n (scanRow s)) (λ len. checkLine l n (take len s) >> says (len + 2)) (text-found (scanRow s))
       (λ len e. only-then (PlacedTo 16) (checkLine l n (take len s)) (says (len + 2)) (text-line l (take len s)) (λ f. tt))
 
-text-rows : (l : Layout) (s : List ℕ) (n m : ℕ) → 1 ≤ n → RefusesOnly (PlacedTo 16) (ascii_file.checkRows l s n m)
-unfolding ascii_file.checkRows
+text-rows : (l : Layout) (s : List ℕ) (n m : ℕ) → 1 ≤ n → RefusesOnly (PlacedTo 16) (ascii_file.checkLines l s n m)
+unfolding ascii_file.checkLines
 text-rows l s n zero h = only-must (PlacedTo 16) (isEnding s) (refused 11 n 0) (λ e. (row-ends n h, lit≤ tt))
 text-rows l s n (suc m) h =
-    only-bind (PlacedTo 16) (checkRow l n s) (λ taken. ascii_file.checkRows l (drop taken s) (n + 1) m) (text-row n h l s)
+    only-bind (PlacedTo 16) (takeRow l n s) (λ taken. ascii_file.checkLines l (drop taken s) (n + 1) m) (text-row n h l s)
     (λ taken e. text-rows l (drop taken s) (n + 1) m (omega arith))
 
 kind-placed : (k : Kind) (x y : Said Refusal (Unit {0})) → RefusesOnly (PlacedTo 16) x → RefusesOnly (PlacedTo 16) y → RefusesOnly (PlacedTo 16) (byKind k x y)

@@ -53,12 +53,12 @@ use Rattle.binary_bytes.specs.Rows.{binaryOf, packed}
 use Rattle.binary_row.specs.Rows.{rowSize}
 use Rattle.binary_file.specs.Files as binary_file
 use Rattle.binary_file.specs.Files.{checkBinary, binaryRow}
-use Rattle.ascii_row.specs.Fields.{readTime, readSample, isStatus, timeIn, sampleIn, statusIn}
+use Rattle.ascii_row.specs.Fields.{readTimestamp, readSample, isStatus, timeIn, sampleIn, statusIn}
 use Rattle.ascii_row.specs.Rows as ascii
 use Rattle.ascii_row.specs.Rows.{fieldFine, checkFields, checkNumber, checkLine}
 use Rattle.ascii_plain.specs.Rows.{lineOf, textOf}
 use Rattle.ascii_file.specs.Files as ascii_file
-use Rattle.ascii_file.specs.Files.{checkRow, isEnding, checkText, firstLine, afterRows, textRow, mark}
+use Rattle.ascii_file.specs.Files.{takeRow, isEnding, checkText, firstLine, afterRows, textRow, mark}
 use Rattle.row_bytes.specs.Rows.{bytesOf}
 use Rattle.data.specs.Files.{fileFine, rowAt, hasRow, misfitOf, checkFile, showRow, writeSaid, endMark, fileOf}
 use Rattle.change.specs.Change.{changeSaid}
@@ -122,8 +122,8 @@ computed :
     × (changeSaid (layout 1 0 2 Ascii) both-unfit Binary 0 ≡ refuses (refused 16 1 3))
     × (length (changed (layout 1 0 2 Ascii) both-unfit Binary) ≡ 20)
     × (fitRow (layout 1 0 2 Binary) 2 (rowAt (layout 1 0 2 Ascii) both-unfit 1) ≡ refuses (refused 16 2 3)))
-unfolding checkFile showRow writeSaid isSized hasRow fileFine rowAt checkText ascii_file.checkRows checkRow isEnding scanLine firstLine afterRows textRow fieldCount afterFields fieldAt
-    checkLine checkNumber checkFields fieldFine ascii.rowOf readTime readSample isStatus timeIn sampleIn statusIn lengthIn isDigit numberOf readCount signLength hasMinus withSign signedNumber readWhole fitsKind
+unfolding checkFile showRow writeSaid isSized hasRow fileFine rowAt checkText ascii_file.checkLines takeRow isEnding scanLine firstLine afterRows textRow fieldCount afterFields fieldAt
+    checkLine checkNumber checkFields fieldFine ascii.rowOf readTimestamp readSample isStatus timeIn sampleIn statusIn lengthIn isDigit numberOf readCount signLength hasMinus withSign signedNumber readWhole fitsKind
     changeSaid fitRows misfitOf misfit rowSize changed fileOf endMark bytesOf binaryOf packed wordBytes wordOf signedOf unsignedOf
     checkBinary binary_file.checkRows binaryRow binary.rowOf binary.checkRow decimalIn decimal plain lineOf textOf
 computed = (

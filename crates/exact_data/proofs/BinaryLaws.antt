@@ -27,7 +27,7 @@ use Rattle.model.specs.Kinds.{widthOf, halfOf}
 use Rattle.model.specs.Layouts.{Sized}
 use Rattle.model.specs.Rows.{trimmed}
 use Rattle.model.proofs.KindLaws.{width-pos}
-use Rattle.binary_row.specs.Rows.{wordsOf, samplesEnd, rowSize, numberOfRow, samplesPart, wordsPart, sampleAt, wordAt, statusAt, paddingFree, checkRow, rowOf}
+use Rattle.binary_row.specs.Rows.{wordsOf, samplesEnd, rowSize, rowNumber, samplesPart, wordsPart, bytesSample, wordAt, wordStatus, paddingFree, checkRow, rowOf}
 use Rattle.binary_bytes.specs.Rows.{binaryOf}
 use Rattle.binary_row.proofs.SizeLaws.{sizes}
 use Rattle.binary_row.proofs.RowLaws as laws
@@ -53,7 +53,7 @@ module _ (l : Layout) (b : List ℕ) (bytes : every isByte b ≡ true) (size : l
       let e : 8 + (i * w + w) ≡ 8 + i * w + w = omega arith in
       rw e at (part-part 8 (samplesEnd l) (i * w) (i * w + w) b (omega arith) (omega (arith, block-end i (l .analogs) w h)) (omega (arith, sizes l)))
 
-  sample-is : (i : ℕ) (z : ℤ) → i < l .analogs → TwosComplement w (lowFirst (sampleBytes i)) z ↔ sampleAt w (halfOf (l .kind)) (samplesPart l b) i ≡ z
+  sample-is : (i : ℕ) (z : ℤ) → i < l .analogs → TwosComplement w (lowFirst (sampleBytes i)) z ↔ bytesSample w (halfOf (l .kind)) (samplesPart l b) i ≡ z
   sample-is i z h =
       rw (low-first (sampleBytes i), sample-part i h)
       (twos-exactly w (wordOf (sampleBytes i)) z (width-pos (l .kind)) (wordOf-part-lt b (8 + i * w) (8 + i * w + w) w bytes (omega arith)))
@@ -65,7 +65,7 @@ module _ (l : Layout) (b : List ℕ) (bytes : every isByte b ≡ true) (size : l
       low-first (part (samplesEnd l + 2 * j) (samplesEnd l + 2 * j + 2) b)
       ∙ ap wordOf (sym (rw (e, f) at (part-part (samplesEnd l) (rowSize l) (j * 2) (j * 2 + 2) b (omega arith) (omega (arith, sizes l)) (omega arith))))
 
-  status-is : (i : ℕ) → i < 16 * wordsOf (l .statuses) → isOn (i % 16) (statusWord l (i / 16) b) ≡ statusAt (wordsPart l b) i
+  status-is : (i : ℕ) → i < 16 * wordsOf (l .statuses) → isOn (i % 16) (statusWord l (i / 16) b) ≡ wordStatus (wordsPart l b) i
   status-is i h = rw (word-is (i / 16) (omega arith))
 
   words-bytes : every isByte (wordsPart l b) ≡ true
@@ -75,7 +75,7 @@ module _ (l : Layout) (b : List ℕ) (bytes : every isByte b ≡ true) (size : l
   abbrev Statuses : Row → Type 0
   Statuses r = (i : ℕ) → i < 16 * wordsOf (l .statuses) → isOn (i % 16) (statusWord l (i / 16) b) ≡ (ltb i (l .statuses) && statusOf r i)
 
-  status-to : (r : Row) → Statuses r → (i : ℕ) → i < l .statuses → statusAt (wordsPart l b) i ≡ statusOf r i
+  status-to : (r : Row) → Statuses r → (i : ℕ) → i < l .statuses → wordStatus (wordsPart l b) i ≡ statusOf r i
   status-to r h i k =
       let q : i < 16 * wordsOf (l .statuses) = omega arith in
       sym (status-is i q) ∙ h i q ∙ rw (lt-ltb i (l .statuses) k)
@@ -85,7 +85,7 @@ module _ (l : Layout) (b : List ℕ) (bytes : every isByte b ≡ true) (size : l
       padding-exactly (l .statuses) (wordsPart l b) words-bytes .1
       (λ i k q. sym (status-is i q) ∙ h i q ∙ rw (le-ltb i (l .statuses) k))
 
-  statuses-from : (r : Row) → ((i : ℕ) → i < l .statuses → statusAt (wordsPart l b) i ≡ statusOf r i) → paddingFree (l .statuses) (wordsPart l b) ≡ true → Statuses r
+  statuses-from : (r : Row) → ((i : ℕ) → i < l .statuses → wordStatus (wordsPart l b) i ≡ statusOf r i) → paddingFree (l .statuses) (wordsPart l b) ≡ true → Statuses r
   statuses-from r h p i q =
       status-is i q
       ∙ ⊎-elim
@@ -94,25 +94,25 @@ module _ (l : Layout) (b : List ℕ) (bytes : every isByte b ≡ true) (size : l
       (lt-or-ge i (l .statuses))
 
 -- the bytes b are read as row n, which is r
-pub record Reads (l : Layout) (n : ℕ) (r : Row) (b : List ℕ) : Type 0 where
+pub record ReadsRow (l : Layout) (n : ℕ) (r : Row) (b : List ℕ) : Type 0 where
   pub size : length b ≡ rowSize l
   pub fine : checkRow l n b ≡ says tt
   pub row : rowOf l b ≡ r
 
 module _ (l : Layout) (n : ℕ) (r : Row) (b : List ℕ) (bytes : every isByte b ≡ true) where
-  row-to : BinaryRow l n r b → Reads l n r b
+  row-to : BinaryRow l n r b → ReadsRow l n r b
   unfolding checkRow rowOf trimmed
   row-to t =
       let size : length b ≡ rowSize l = t .size ∙ sym (sizes l) in
       let k = l .kind in
       record {
         size = size;
-        fine = rw (eq-eqb (numberOfRow b) n (sym (low-first (part 0 4 b)) ∙ t .number), padding-to l b bytes size r (t .statuses));
+        fine = rw (eq-eqb (rowNumber b) n (sym (low-first (part 0 4 b)) ∙ t .number), padding-to l b bytes size r (t .statuses));
         row =
             rw (
               sym (low-first (part 4 8 b)) ∙ t .time,
-              tab-ext (sampleAt (widthOf k) (halfOf k) (samplesPart l b)) (sampleOf r) (l .analogs) (λ i h. sample-is l b bytes size i (sampleOf r i) h .0 (t .samples i h)),
-              tab-ext (statusAt (wordsPart l b)) (statusOf r) (l .statuses) (status-to l b bytes size r (t .statuses)),
+              tab-ext (bytesSample (widthOf k) (halfOf k) (samplesPart l b)) (sampleOf r) (l .analogs) (λ i h. sample-is l b bytes size i (sampleOf r i) h .0 (t .samples i h)),
+              tab-ext (wordStatus (wordsPart l b)) (statusOf r) (l .statuses) (status-to l b bytes size r (t .statuses)),
             )
             (t .beyond);
       }
@@ -126,15 +126,15 @@ module _ (l : Layout) (n : ℕ) (r : Row) (b : List ℕ) (bytes : every isByte b
         size = size ∙ sizes l;
         number = low-first (part 0 4 b) ∙ f .0;
         time = low-first (part 4 8 b);
-        samples = λ i h. sample-is l b bytes size i _ h .1 (sym (getD-padded (sampleAt (widthOf k) (halfOf k) (samplesPart l b)) (l .analogs) 96 i (pos 0) (pos 0) h));
-        statuses = statuses-from l b bytes size (rowOf l b) (λ i h. sym (getD-padded (statusAt (wordsPart l b)) (l .statuses) 256 i false false h)) (f .1);
+        samples = λ i h. sample-is l b bytes size i _ h .1 (sym (getD-padded (bytesSample (widthOf k) (halfOf k) (samplesPart l b)) (l .analogs) 96 i (pos 0) (pos 0) h));
+        statuses = statuses-from l b bytes size (rowOf l b) (λ i h. sym (getD-padded (wordStatus (wordsPart l b)) (l .statuses) 256 i false false h)) (f .1);
         beyond = laws.row-trimmed l b;
       }
 
-  row-from : Reads l n r b → BinaryRow l n r b
+  row-from : ReadsRow l n r b → BinaryRow l n r b
   row-from t = subst (λ (q : Row). BinaryRow l n q b) (t .row) (row-own (t .size) (t .fine))
 
-  pub row-exactly : BinaryRow l n r b ↔ Reads l n r b
+  pub row-exactly : BinaryRow l n r b ↔ ReadsRow l n r b
   row-exactly = (row-to, row-from)
 
 -- a file of a binary kind, of a sized layout
@@ -161,13 +161,13 @@ module _ (l : Layout) (r : ℕ → Row) (s : List ℕ) (sized : Sized l) (bytes 
     piece-bytes : (i : ℕ) → i < l .rows → every isByte (t .bytes i) ≡ true
     piece-bytes i h = every-piece isByte (t .bytes) (l .rows) (rw (t .whole) at bytes) i h
 
-    piece-reads : (i : ℕ) → i < l .rows → Reads l (i + 1) (r i) (t .bytes i)
+    piece-reads : (i : ℕ) → i < l .rows → ReadsRow l (i + 1) (r i) (t .bytes i)
     piece-reads i h = row-exactly l (i + 1) (r i) (t .bytes i) (piece-bytes i h) .0 (t .each i h)
 
     piece-is : (i : ℕ) → i < l .rows → t .bytes i ≡ binaryOf l (i + 1) (r i)
     piece-is i h =
         let p = piece-reads i h in
-        sym (written.bytes-back l (i + 1) (t .bytes i) (p .size) (piece-bytes i h) (p .fine)) ∙ ap (binaryOf l (i + 1)) (p .row)
+        sym (written.row-bytes-back l (i + 1) (t .bytes i) (p .size) (piece-bytes i h) (p .fine)) ∙ ap (binaryOf l (i + 1)) (p .row)
 
     file-is : s ≡ binaryFile l r
     file-is = t .whole ∙ cat-ext (t .bytes) (λ i. binaryOf l (i + 1) (r i)) (l .rows) piece-is

@@ -43,7 +43,7 @@ use Rattle.paper.specs.Data.{InRange, sampleOf, TextFile, DataFile}
 use Rattle.paper.specs.Written.{EndingOf, PlainText, Restored, AllInRange, FirstOutside}
 use Rattle.exact_data.proofs.NumberLaws.{range-exactly}
 use Rattle.exact_data.proofs.FileLaws.{as-text, RowsAre, fine-exactly, same-file}
-use Rattle.exact_data.proofs.StandLaws.{row-fits, rows-stand}
+use Rattle.exact_data.proofs.StandLaws.{fits-exactly, rows-stand}
 use Rattle.exact_data.proofs.PlainLaws.{plain-there}
 
 -- the search through a row
@@ -64,8 +64,8 @@ module _ (l : Layout) (r : Row) where
   misfit-before h q k = range-exactly (l .kind) (sampleOf r q) .0 (misfit-first (l .kind) (r .samples) (l .analogs) h .0 q k)
 
 -- m rows from row i on: all fit, or the first that does not is row i + j
-abbrev Fits : Layout → (ℕ → Row) → ℕ → ℕ → Type 0
-Fits n r i m = (fitRows n r i m ≡ says tt) × ((j : ℕ) → j < m → misfitOf n (r (i + j)) ≡ n .analogs)
+abbrev AllFitFrom : Layout → (ℕ → Row) → ℕ → ℕ → Type 0
+AllFitFrom n r i m = (fitRows n r i m ≡ says tt) × ((j : ℕ) → j < m → misfitOf n (r (i + j)) ≡ n .analogs)
 
 record Misfit (n : Layout) (r : ℕ → Row) (i m : ℕ) : Type 0 where
   at : ℕ
@@ -80,7 +80,7 @@ module _ (n : Layout) (r : ℕ → Row) where
   from-first i m e f zero h = rw add-zero e
   from-first i m e f (suc j) h = let q : i + suc j ≡ i + 1 + j = omega arith in rw q (f j (omega arith))
 
-  fits-or : (i m : ℕ) → Fits n r i m ⊎ Misfit n r i m
+  fits-or : (i m : ℕ) → AllFitFrom n r i m ⊎ Misfit n r i m
   unfolding fitRows
   fits-or i zero = inl (refl, λ j h. absurd (omega arith))
   fits-or i (suc m) =
@@ -88,7 +88,7 @@ module _ (n : Layout) (r : ℕ → Row) where
       (λ t.
       let e = eqb-true (misfitOf n (r i)) (n .analogs) t in
       ⊎-elim
-      (λ (f : Fits n r (i + 1) m). inl (rw t (f .0), from-first i m e (f .1)))
+      (λ (f : AllFitFrom n r (i + 1) m). inl (rw t (f .0), from-first i m e (f .1)))
       (λ (f : Misfit n r (i + 1) m).
       let q : i + 1 + f .at ≡ i + suc (f .at) = omega arith in
       inr (record {
@@ -124,7 +124,7 @@ module _ (l : Layout) (k : Kind) (r : ℕ → Row) where
   pub outcome : (AllInRange l k r × (fitRows new r 0 (l .rows) ≡ says tt)) ⊎ Outside
   outcome =
       ⊎-elim
-      (λ (f : Fits new r 0 (l .rows)). inl (λ i j h q. row-fits new (r i) .0 (rw zero-add at (f .1 i h)) j q, f .0))
+      (λ (f : AllFitFrom new r 0 (l .rows)). inl (λ i j h q. fits-exactly new (r i) .0 (rw zero-add at (f .1 i h)) j q, f .0))
       (λ (f : Misfit new r 0 (l .rows)).
       let here : misfitOf new (r (f .at)) < l .analogs = rw zero-add at (f .here) in
       inr (record {
@@ -134,7 +134,7 @@ module _ (l : Layout) (k : Kind) (r : ℕ → Row) where
           row = f .within;
           sample = here;
           outside = misfit-outside new (r (f .at)) here;
-          rowsBefore = λ p q h w. row-fits new (r p) .0 (rw zero-add at (f .before p h)) q w;
+          rowsBefore = λ p q h w. fits-exactly new (r p) .0 (rw zero-add at (f .before p h)) q w;
           samplesBefore = misfit-before new (r (f .at)) here;
         };
         refusal = rw zero-add at (f .refusal);
@@ -200,7 +200,7 @@ module _ (l : Layout) (r : ℕ → Row) (s : List ℕ) (size : Sized l) (bytes :
   row-trimmed i h = ap (trimmed l) (sym (fine .1 i h)) ∙ files.row-trimmed l s bytes i ∙ fine .1 i h
 
   own-range : AllInRange l (l .kind) r
-  own-range i j h q = row-fits l (r i) .0 (row-writes i h .all) j q
+  own-range i j h q = fits-exactly l (r i) .0 (row-writes i h .all) j q
 
   pub said-file : (k : Kind) (room : ℕ)
       → changeSaid l s k room
@@ -213,7 +213,7 @@ module _ (l : Layout) (r : ℕ → Row) (s : List ℕ) (size : Sized l) (bytes :
     all-fit = ⊎-elim (λ f. f .1) (λ (f : Outside l k r). absurd (none-first l k r (f .i) (f .j) all (f .first))) (outcome l k r)
 
     new-writes : (i : ℕ) → i < l .rows → Writes (inKind k l) (r i)
-    new-writes i h = record { time = row-writes i h .time; all = row-fits (inKind k l) (r i) .1 (λ j q. all i j h q) }
+    new-writes i h = record { time = row-writes i h .time; all = fits-exactly (inKind k l) (r i) .1 (λ j q. all i j h q) }
 
     new-trimmed : (i : ℕ) → i < l .rows → trimmed (inKind k l) (r i) ≡ r i
     unfolding trimmed

@@ -28,7 +28,7 @@ use Rattle.words.proofs.WordLaws.{wordOf-part-lt}
 use Rattle.words.proofs.SignedLaws.{signed-low, signed-high, half-twice}
 use Rattle.model.specs.declared.Kind.{Kind}
 use Rattle.model.specs.Kinds.{lowestOf, highestOf, fitsKind}
-use Rattle.binary_row.specs.Rows.{wordsOf, wordAt, bitOf, statusAt, paddingFree}
+use Rattle.binary_row.specs.Rows.{wordsOf, wordAt, bitOf, wordStatus, paddingFree}
 use Rattle.binary_bytes.specs.Rows.{packed}
 use Rattle.binary_bytes.proofs.PackLaws.{packed-bits, lt-of-div}
 use Rattle.paper.specs.Data.{InRange, lowFirst, TwosComplement}
@@ -96,7 +96,7 @@ module _ (d : ℕ) (b : List ℕ) (bytes : every isByte b ≡ true) where
   abbrev used : ℕ
   used = d % 16
 
-  padding-to : paddingFree d b ≡ true → (i : ℕ) → d ≤ i → i < 16 * wordsOf d → statusAt b i ≡ false
+  padding-to : paddingFree d b ≡ true → (i : ℕ) → d ≤ i → i < 16 * wordsOf d → wordStatus b i ≡ false
   padding-to p i h k =
       let n : eqb used 0 ≡ false = ne-eqb used 0 (λ z. omega arith) in
       let small : last < 2 ^ used = lt-of-div last used (eqb-true (last / 2 ^ used) 0 (rw n at p)) in
@@ -104,7 +104,7 @@ module _ (d : ℕ) (b : List ℕ) (bytes : every isByte b ≡ true) where
       let m : used ≤ i % 16 = omega arith in
       rw (q, div-eq-of-lt (lt-of-lt-of-le small (pow-mono m)))
 
-  padding-from : ((i : ℕ) → d ≤ i → i < 16 * wordsOf d → statusAt b i ≡ false) → paddingFree d b ≡ true
+  padding-from : ((i : ℕ) → d ≤ i → i < 16 * wordsOf d → wordStatus b i ≡ false) → paddingFree d b ≡ true
   padding-from f =
       on-test (eqb used 0) (λ t. rw t)
       (λ t.
@@ -119,5 +119,5 @@ module _ (d : ℕ) (b : List ℕ) (bytes : every isByte b ≡ true) where
       let m : (d + i) % 16 ≡ used + i = omega arith in
       rw (shr-shr last used i) (rw (q, m) at (f (d + i) (omega arith) (omega arith)))))))
 
-  pub padding-exactly : paddingFree d b ≡ true ↔ ((i : ℕ) → d ≤ i → i < 16 * wordsOf d → statusAt b i ≡ false)
+  pub padding-exactly : paddingFree d b ≡ true ↔ ((i : ℕ) → d ≤ i → i < 16 * wordsOf d → wordStatus b i ≡ false)
   padding-exactly = (padding-to, padding-from)

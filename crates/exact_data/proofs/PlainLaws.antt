@@ -1,6 +1,6 @@
 -- Plain texts, exactly.
---     count-plain, whole-plain     plain counts and plain whole numbers, by their characters
---     plain-is                     a line that is written is plain
+--     plain-count-exactly, plain-whole-exactly     plain counts and plain whole numbers, by their characters
+--     line-plain                   a line that is written is plain
 --     plain-written                a plain text with given rows is what is written of them
 --     plain-there                  and what is written is one
 -- Assumes nothing.
@@ -61,8 +61,8 @@ count-from (b ∷ l) p =
     some-more zero h = absurd (h refl)
     some-more (suc n) h = omega arith
 
-pub count-plain : (f : List ℕ) → isPlainCount f ≡ true ↔ PlainCount f
-count-plain f = (count-to f, count-from f)
+pub plain-count-exactly : (f : List ℕ) → isPlainCount f ≡ true ↔ PlainCount f
+plain-count-exactly f = (count-to f, count-from f)
 
 whole-to : (f : List ℕ) → isPlain f ≡ true → PlainWhole f
 unfolding isPlain
@@ -93,8 +93,8 @@ whole-from [] (inl p) = absurd (omega (arith, p .number .some))
 whole-from (b ∷ l) (inl p) = rw (no-minus b l p) (count-from (b ∷ l) p)
 whole-from f (inr (d, e, p, h)) = rw e (and-join (isPlainCount d) (not (eqb (getD d 0 0) 48)) (count-from d p) (not-zero d p h))
 
-pub whole-plain : (f : List ℕ) → isPlain f ≡ true ↔ PlainWhole f
-whole-plain f = (whole-to f, whole-from f)
+pub plain-whole-exactly : (f : List ℕ) → isPlain f ≡ true ↔ PlainWhole f
+plain-whole-exactly f = (whole-to f, whole-from f)
 
 -- a line that is fine, and plain, is what is written of its row
 line-is : (l : Layout) (n : ℕ) (r : Row) (line : List ℕ) → TextLine l n r line → PlainLine l line → lineOf l n r ≡ line
@@ -107,8 +107,8 @@ line-is l n r line t p =
     (rw (f 2 (omega arith) (omega arith)) (count-from (p .f 2) (p .time)))
     (λ i h. rw (f (3 + i) (omega arith) (omega arith)) (whole-from (p .f (3 + i)) (p .samples i h)))
 
-pub plain-is : (l : Layout) (n : ℕ) (r : Row) → PlainLine l (lineOf l n r)
-plain-is l n r =
+pub line-plain : (l : Layout) (n : ℕ) (r : Row) → PlainLine l (lineOf l n r)
+line-plain l n r =
     record {
       f = λ i. fieldAt i (lineOf l n r);
       fields = fields-of (fieldsOf l) (lineOf l n r) (omega arith) (fields-line l n r);
@@ -123,7 +123,7 @@ plain-there l r =
     record {
       line = λ i. lineOf l (i + 1) (r i);
       whole = refl;
-      each = λ i h. record { bytes = line-bytes-plain l (i + 1) (r i); is = plain-is l (i + 1) (r i) };
+      each = λ i h. record { bytes = line-bytes-plain l (i + 1) (r i); is = line-plain l (i + 1) (r i) };
     }
 
 pub plain-written : (l : Layout) (r : ℕ → Row) (s : List ℕ) → TextFile l r s → PlainText l s → s ≡ textFile l r

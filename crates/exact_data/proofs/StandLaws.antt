@@ -1,5 +1,5 @@
 -- Rows that were written, standing in a data file.
---     row-fits                   no sample of a row is a misfit exactly when each is in range
+--     fits-exactly               no sample of a row is a misfit exactly when each is in range
 --     fitting-exactly            so a row fits exactly when it can be written
 --     lines-apart                a text that begins with a line begins with no other
 --     same-lines                 so lines in a row are found again
@@ -50,20 +50,20 @@ use Rattle.paper.specs.Data.{InRange, sampleOf, TextEnding, TextFile, BinaryFil
 use Rattle.paper.specs.Written.{Fitting, RowsOf, Stands, EndingOf}
 use Rattle.exact_data.proofs.NumberLaws.{range-exactly}
 use Rattle.exact_data.proofs.BinaryLaws.{row-exactly, binary-exactly}
-use Rattle.exact_data.proofs.TextLaws.{line-exactly, rows-front}
+use Rattle.exact_data.proofs.TextLaws.{line-exactly, lines-front}
 use Rattle.exact_data.proofs.FileLaws.{as-text, as-binary}
 
-pub row-fits : (l : Layout) (r : Row) → misfitOf l r ≡ l .analogs ↔ ((j : ℕ) → j < l .analogs → InRange (l .kind) (sampleOf r j))
+pub fits-exactly : (l : Layout) (r : Row) → misfitOf l r ≡ l .analogs ↔ ((j : ℕ) → j < l .analogs → InRange (l .kind) (sampleOf r j))
 unfolding misfitOf
-row-fits l r = (
+fits-exactly l r = (
   λ e j h. range-exactly (l .kind) (sampleOf r j) .0 (misfit-all (l .kind) (r .samples) (l .analogs) e j h),
   λ f. all-misfit (l .kind) (r .samples) (l .analogs) (λ j h. range-exactly (l .kind) (sampleOf r j) .1 (f j h)),
 )
 
 pub fitting-exactly : (l : Layout) (r : Row) → Fitting l r ↔ Writes l r
 fitting-exactly l r = (
-  λ f. record { time = omega (arith, f .early); all = row-fits l r .1 (f .samples) },
-  λ w. record { early = omega (arith, w .time); samples = row-fits l r .0 (w .all) },
+  λ f. record { time = omega (arith, f .early); all = fits-exactly l r .1 (f .samples) },
+  λ w. record { early = omega (arith, w .time); samples = fits-exactly l r .0 (w .all) },
 )
 
 -- no byte of a line is CR
@@ -87,7 +87,7 @@ pub same-lines : (f g : ℕ → List ℕ) (m : ℕ) (a b : List ℕ) → ((i : �
 same-lines f g zero a b h k e = (λ i q. absurd (omega arith), e)
 same-lines f g (suc m) a b h k e =
     let t = lines-apart (f 0) (g 0) (cat (λ i. ended (f (i + 1))) m ++ a) (cat (λ i. ended (g (i + 1))) m ++ b) (h 0 (omega arith)) (k 0 (omega arith))
-    (sym (rows-front f m a) ∙ e ∙ rows-front g m b) in
+    (sym (lines-front f m a) ∙ e ∙ lines-front g m b) in
     let u = same-lines (λ i. f (i + 1)) (λ i. g (i + 1)) m a b (λ i q. h (i + 1) (omega arith)) (λ i q. k (i + 1) (omega arith)) (t .1) in
     (λ i q. by-first i q (t .0) (u .0), u .1)
   where
@@ -117,7 +117,7 @@ module _ (l : Layout) (s : List ℕ) (n : ℕ) (r : Row) (q : ℕ → Row) (size
       ∙ ap (λ (x : ℕ). cat (λ i. ended (line i)) x ++ t .end) c
       ∙ ap (λ (x : List ℕ). x ++ t .end) (cat-split (λ i. ended (line i)) m (suc k))
       ∙ append-assoc (cat (λ i. ended (line i)) m) (cat (λ i. ended (later i)) (suc k)) (t .end)
-      ∙ ap (λ (x : List ℕ). cat (λ i. ended (line i)) m ++ x) (rows-front later k (t .end)) in
+      ∙ ap (λ (x : List ℕ). cat (λ i. ended (line i)) m ++ x) (lines-front later k (t .end)) in
       let own : s ≡ cat (λ i. ended (b .0 i)) m ++ (bytesOf l n r ++ st .after) = st .whole ∙ ap (λ (x : List ℕ). x ++ (bytesOf l n r ++ st .after)) (b .1) in
       let x = same-lines (b .0) line m (bytesOf l n r ++ st .after) (line (m + 0) ++ 13 ∷ 10 ∷ rest) (b .2) (λ i h. t .each i (omega arith) .bytes) (sym own ∙ front) .1 in
       let p = line-front l n r (st .after) e in

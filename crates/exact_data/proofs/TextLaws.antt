@@ -1,7 +1,7 @@
 -- Files of text, exactly.
 --     line-exactly       a row's line is fine, and says r, exactly when its fields are those of the row
 --     ending-exactly     what may follow the last row
---     rows-front         lines in a row, the first of them at the front
+--     lines-front        lines in a row, the first of them at the front
 --     text-exactly       a file is accepted as text, and its rows are r 0, r 1, .., exactly when it is the text of these rows
 -- Assumes nothing.
 use mathlib.Core.Path.{_≡_, refl, sym, ap, subst, _∙_}
@@ -34,13 +34,13 @@ use Rattle.model.specs.declared.Layout.{Layout}
 use Rattle.model.specs.declared.Row.{Row}
 use Rattle.model.specs.Refusals.{refused}
 use Rattle.model.specs.Rows.{latestTime, trimmed}
-use Rattle.ascii_row.specs.Fields.{readTime, readSample, timeIn, sampleIn, statusIn}
-use Rattle.ascii_row.specs.Rows.{fieldsOf, checkLine, sampleAt, statusAt, rowOf}
+use Rattle.ascii_row.specs.Fields.{readTimestamp, readSample, timeIn, sampleIn, statusIn}
+use Rattle.ascii_row.specs.Rows.{fieldsOf, checkLine, fieldSample, fieldStatus, rowOf}
 use Rattle.ascii_row.proofs.FieldLaws.{time-below, time-read, time-fine, sample-fits, sample-read, sample-fine}
 use Rattle.ascii_row.proofs.LineLaws.{FineLine, line-told, line-is, sample-at, status-at, sample-there, status-there, row-trimmed}
 use Rattle.ascii_plain.specs.Rows.{statusChar}
-use Rattle.ascii_file.specs.Files.{scanRow, checkRow, isEnding, checkRows, checkText, lineTaken, firstLine, afterRows, textRow}
-use Rattle.ascii_file.proofs.Laws.{row-fine}
+use Rattle.ascii_file.specs.Files.{scanRow, takeRow, isEnding, checkLines, checkText, lineTaken, firstLine, afterRows, textRow}
+use Rattle.ascii_file.proofs.Laws.{row-takes-told}
 use Rattle.ascii_file.proofs.RoundLaws.{status-back}
 use Rattle.ascii_file.proofs.PlainLaws.{status-again}
 use Rattle.paper.specs.Fields.{CountField}
@@ -58,7 +58,7 @@ status-char false = refl
 
 -- what a field says is what the row has
 time-of : (f : List ℕ) (v : ℕ) → CountField 13 v f → v ≤ latestTime → timeIn f ≡ v
-unfolding timeIn readTime
+unfolding timeIn readTimestamp
 time-of f v c h = rw (count-exactly 13 v f .1 c, le-leb v latestTime h)
 
 sample-of : (f : List ℕ) (z : ℤ) → SampleField z f → sampleIn f ≡ z
@@ -116,9 +116,9 @@ module _ (l : Layout) (n : ℕ) (line : List ℕ) where
         rw (
           the-fields .1 2 (omega arith) (omega arith),
           time-of (t .f 2) (r .time) (t .time) (t .early),
-          tab-ext (sampleAt (afterFields 2 line)) (sampleOf r) (l .analogs)
+          tab-ext (fieldSample (afterFields 2 line)) (sampleOf r) (l .analogs)
               (λ i h. sample-at line i ∙ ap sampleIn (the-fields .1 (3 + i) (omega arith) (omega arith)) ∙ sample-of (t .f (3 + i)) (sampleOf r i) (t .samples i h)),
-          tab-ext (statusAt (afterFields (2 + l .analogs) line)) (statusOf r) (l .statuses)
+          tab-ext (fieldStatus (afterFields (2 + l .analogs) line)) (statusOf r) (l .statuses)
               (λ i h. status-at l line i ∙ ap statusIn (status-field i h) ∙ status-back (statusOf r i) .1),
         )
         (t .beyond)
@@ -155,9 +155,9 @@ record TextRows (l : Layout) (n m : ℕ) (s : List ℕ) (line : ℕ → List ℕ
   ending : isEnding end ≡ true
 
 -- the first row, and the others
-pub rows-front : (line : ℕ → List ℕ) (m : ℕ) (end : List ℕ)
+pub lines-front : (line : ℕ → List ℕ) (m : ℕ) (end : List ℕ)
     → cat (λ i. ended (line i)) (suc m) ++ end ≡ line 0 ++ 13 ∷ 10 ∷ (cat (λ i. ended (line (i + 1))) m ++ end)
-rows-front line m end =
+lines-front line m end =
     let more = cat (λ i. ended (line (i + 1))) m in
     rw (cat-front (λ i. ended (line i)) m, append-assoc (line 0 ++ 13 ∷ 10 ∷ []) more end) (append-assoc (line 0) (13 ∷ 10 ∷ []) (more ++ end))
 
@@ -180,8 +180,8 @@ module _ (s : List ℕ) (len : ℕ) (e : scanRow s ≡ scanned.Line len (len + 2
   first-ended : s ≡ firstLine s ++ 13 ∷ 10 ∷ drop (lineTaken (scanRow s)) s
   first-ended = sym (line-ended 1880 len (len + 2) s e) ∙ rw (first-is, e)
 
-rows-to : (l : Layout) (m n : ℕ) (s : List ℕ) → checkRows l s n m ≡ says tt → TextRows l n m s (λ i. firstLine (afterRows i s)) (afterRows m s)
-unfolding checkRows afterRows
+rows-to : (l : Layout) (m n : ℕ) (s : List ℕ) → checkLines l s n m ≡ says tt → TextRows l n m s (λ i. firstLine (afterRows i s)) (afterRows m s)
+unfolding checkLines afterRows
 rows-to l zero n s e =
     record {
       parts = refl;
@@ -191,16 +191,16 @@ rows-to l zero n s e =
       ending = must-holds (isEnding s) (refused 11 n 0) e;
     }
 rows-to l (suc m) n s e =
-    let b = bind-told (checkRow l n s) (λ taken. checkRows l (drop taken s) (n + 1) m) tt e in
-    let f = row-fine l n s (b .0) (b .1) in
+    let b = bind-told (takeRow l n s) (λ taken. checkLines l (drop taken s) (n + 1) m) tt e in
+    let f = row-takes-told l n s (b .0) (b .1) in
     let t = drop (lineTaken (scanRow s)) s in
     let w : b .0 ≡ lineTaken (scanRow s) = f .takes ∙ ap lineTaken (sym (f .scanned)) in
-    let r = rows-to l m (n + 1) t (subst (λ (k : ℕ). checkRows l (drop k s) (n + 1) m ≡ says tt) w (b .2)) in
+    let r = rows-to l m (n + 1) t (subst (λ (k : ℕ). checkLines l (drop k s) (n + 1) m ≡ says tt) w (b .2)) in
     let line : ℕ → List ℕ = λ i. firstLine (afterRows i s) in
     let g = first-found s (f .len) (f .scanned) in
     let c : cat (λ i. ended (firstLine (afterRows i t))) m ≡ cat (λ i. ended (line (i + 1))) m = cat-ext _ _ m (λ i h. rw add-one) in
     record {
-      parts = first-ended s (f .len) (f .scanned) ∙ ap (λ (x : List ℕ). firstLine s ++ 13 ∷ 10 ∷ x) (r .parts ∙ ap (λ (x : List ℕ). x ++ afterRows m t) c) ∙ sym (rows-front line m (afterRows m t));
+      parts = first-ended s (f .len) (f .scanned) ∙ ap (λ (x : List ℕ). firstLine s ++ 13 ∷ 10 ∷ x) (r .parts ∙ ap (λ (x : List ℕ). x ++ afterRows m t) c) ∙ sym (lines-front line m (afterRows m t));
       bytes = first-or (λ i. lineBytes (line i) ≡ true) m (g .0) (r .bytes);
       short = first-or (λ i. length (line i) ≤ 1880) m (g .1) (r .short);
       fine = first-or (λ i. checkLine l (n + i) (line i) ≡ says tt) m
@@ -217,7 +217,7 @@ others line m end = cat (λ i. ended (line (i + 1))) m ++ end
 module _ (l : Layout) (n m : ℕ) (s : List ℕ) (line : ℕ → List ℕ) (end : List ℕ) (r : TextRows l n (suc m) s line end) where
   front : s ≡ line 0 ++ 13 ∷ 10 ∷ others line m end
   unfolding others
-  front = r .parts ∙ rows-front line m end
+  front = r .parts ∙ lines-front line m end
 
   front-scanned : scanRow s ≡ scanned.Line (length (line 0)) (length (line 0) + 2)
   front-scanned = rw front (line-scanned 1880 (line 0) (others line m end) (r .bytes 0 (omega arith)) (r .short 0 (omega arith)))
@@ -228,8 +228,8 @@ module _ (l : Layout) (n m : ℕ) (s : List ℕ) (line : ℕ → List ℕ) (end 
   front-rest : drop (length (line 0) + 2) s ≡ others line m end
   front-rest = rw (front, drop-append-add)
 
-  front-checked : checkRow l n s ≡ says (length (line 0) + 2)
-  unfolding checkRow
+  front-checked : takeRow l n s ≡ says (length (line 0) + 2)
+  unfolding takeRow
   front-checked = rw (front-scanned, front-line, rw add-zero at (r .fine 0 (omega arith)))
 
   after-front : TextRows l (n + 1) m (others line m end) (λ i. line (i + 1)) end
@@ -243,8 +243,8 @@ module _ (l : Layout) (n m : ℕ) (s : List ℕ) (line : ℕ → List ℕ) (end 
         ending = r .ending;
       }
 
-rows-from : (l : Layout) (m n : ℕ) (s : List ℕ) (line : ℕ → List ℕ) (end : List ℕ) → TextRows l n m s line end → checkRows l s n m ≡ says tt
-unfolding checkRows
+rows-from : (l : Layout) (m n : ℕ) (s : List ℕ) (line : ℕ → List ℕ) (end : List ℕ) → TextRows l n m s line end → checkLines l s n m ≡ says tt
+unfolding checkLines
 rows-from l zero n s line end r = rw (r .parts, r .ending)
 rows-from l (suc m) n s line end r =
     rw (front-checked l n m s line end r, front-rest l n m s line end r)

@@ -24,12 +24,12 @@ use Rattle.model.specs.Kinds.{widthOf}
 use Rattle.model.specs.Refusals.{refused}
 use Rattle.ascii_row.specs.Rows.{fieldsOf, checkLine}
 use Rattle.binary_row.specs.Rows.{rowSize}
-use Rattle.ascii_file.specs.Files.{scanRow, checkRow, lineTaken}
-use Rattle.ascii_file.proofs.Laws.{row-fine}
+use Rattle.ascii_file.specs.Files.{scanRow, takeRow, lineTaken}
+use Rattle.ascii_file.proofs.Laws.{row-takes-told}
 use Rattle.row_bytes.proofs.KindLaws.{text-kind, binary-kind, by-kind}
 use Rattle.data.specs.Files.{fileFine, rowAt}
 use Rattle.rows.specs.Inner.{takenHere, restOf, HasRow, fineHere, checkHere, startFine, walkFine}
-use Rattle.rows.proofs.WalkLaws.{rest-none, rest-next, fine-walk, fine-taken, taken-within, has-row}
+use Rattle.rows.proofs.WalkLaws.{rest-none, rest-next, fine-walk, fine-taken, here-within, has-row}
 use Rattle.list_lines.specs.Lines.{rowLine}
 use Rattle.list_lines.specs.Inner.{lineMost}
 use Rattle.list_lines.proofs.Laws.{cat-next}
@@ -60,9 +60,9 @@ size-room : (l : Layout) → lineMost l ≤ 16 * rowSize l
 unfolding rowSize
 size-room l = omega (arith, wide (l .kind) (l .analogs))
 
-text-room : (l : Layout) (n : ℕ) (t : List ℕ) (k : ℕ) → checkRow l n t ≡ says k → lineMost l ≤ 16 * k
+text-room : (l : Layout) (n : ℕ) (t : List ℕ) (k : ℕ) → takeRow l n t ≡ says k → lineMost l ≤ 16 * k
 text-room l n t k e =
-    let f = row-fine l n t k e in
+    let f = row-takes-told l n t k e in
     let h : f .len ≤ length t = omega (arith, f .takes, f .within) in
     omega (arith, line-long l n (take (f .len) t) (f .line), length-take-le (f .len) t h, f .takes)
 
@@ -70,7 +70,7 @@ pub line-room : (l : Layout) (n : ℕ) (t : List ℕ) (k : ℕ) → checkHere l 
 unfolding checkHere takenHere
 line-room l n t k e =
     by-kind (l .kind)
-    (λ q. text-room l n t k (sym (text-kind (l .kind) (checkRow l n t) (fineHere l n t) q) ∙ e))
+    (λ q. text-room l n t k (sym (text-kind (l .kind) (takeRow l n t) (fineHere l n t) q) ∙ e))
     (λ q. let w : rowSize l ≡ k = sym (binary-kind (l .kind) (lineTaken (scanRow t)) (rowSize l) q) ∙ fine-taken l n t k e in omega (arith, size-room l))
 
 -- row i of a file s, counted from 0, begins at a place, and it and all that follow are fine
@@ -101,7 +101,7 @@ module _ (l : Layout) (s : List ℕ) (accepted : fileFine l s ≡ says tt) where
       let e : l .rows - i ≡ suc (l .rows - (i + 1)) = omega arith in
       let b = rows-told (i + 1) (l .rows - (i + 1)) t (rw e at (w .fine)) in
       let k = fine-taken l (i + 1) t (b .0) (b .1) in
-      let n = taken-within l t (walked-row i at w h) in (
+      let n = here-within l t (walked-row i at w h) in (
         rw k (line-room l (i + 1) t (b .0) (b .1)),
         record {
           place = sym (drop-drop (takenHere l t) at s) ∙ rw (w .place) (sym (rest-next l s i));

@@ -1,13 +1,13 @@
 -- Laws of one sample between the kinds of 16 and 32 bits.
 --     put-four                   four elements are stored
---     two-bytes, four-bytes      the bytes of a number, one by one
+--     word-two-bytes, word-four-bytes     the bytes of a number, one by one
 --     word-two, word-four        the number of bytes, one by one
 --     extended-is                16 bits in 32
 --     narrowed-bytes             32 bits that fit in 16 are their two low bytes
 --     stray-low, stray-mid, stray-high, stray-fits, fits-stray, stray-le     which numbers of 32 bits fit in 16
 --     length-recoded             what is recoded has its width
 --     recoded-all                a slice that a samples have filled
---     strays-next, none-counted, counted, no-stray     samples that do not fit, counted
+--     strays-next, none-counted, none-strays, no-stray     samples that do not fit, counted
 --     narrow, search-on, search-here     a turn of the search for the first
 -- Assumes nothing.
 use mathlib.Core.Path.{_≡_, sym, ap, _∙_}
@@ -36,7 +36,7 @@ use Rattle.model.specs.declared.Kind.the-variants.{Binary, Binary32}
 use Rattle.model.specs.Kinds.{widthOf, fitsKind}
 use Rattle.model.proofs.KindLaws.{fits-size, size-fits}
 use Rattle.model.proofs.FitLaws.{misfit-all, all-misfit}
-use Rattle.recode_samples.specs.Inner.{sampleOf, bytesAt, samplesIn, recoded, recodedAll, strayOf, straysOf, firstStray, NoStray}
+use Rattle.recode_samples.specs.Inner.{decoded, bytesAt, samplesIn, recoded, recodedAll, strayOf, straysOf, firstStray, NoStray}
 
 elements : (l : List ℕ) (n : ℕ) → length l ≡ n → l ≡ tab (λ i. getD l i 0) n
 elements l n h = sym (tab-getD l 0) ∙ rw h
@@ -46,13 +46,13 @@ put-four l a b c d h = rw (elements l 4 h)
 
 -- bytes, one by one
 module _ (n : ℕ) where
-  pub two-bytes : wordBytes 2 n ≡ n % 256 ∷ n / 256 % 256 ∷ []
+  pub word-two-bytes : wordBytes 2 n ≡ n % 256 ∷ n / 256 % 256 ∷ []
   unfolding wordBytes
-  two-bytes = rw div-one
+  word-two-bytes = rw div-one
 
-  pub four-bytes : wordBytes 4 n ≡ n % 256 ∷ n / 256 % 256 ∷ n / 65536 % 256 ∷ n / 16777216 % 256 ∷ []
+  pub word-four-bytes : wordBytes 4 n ≡ n % 256 ∷ n / 256 % 256 ∷ n / 65536 % 256 ∷ n / 16777216 % 256 ∷ []
   unfolding wordBytes
-  four-bytes = rw div-one
+  word-four-bytes = rw div-one
 
 module _ (b : List ℕ) where
   pub word-two : length b ≡ 2 → wordOf b ≡ getD b 0 0 + 256 * getD b 1 0
@@ -99,16 +99,16 @@ module _ (b : List ℕ) where
   pub stray-mid : 32768 ≤ wordOf b → wordOf b < 4294934528 → strayOf b ≡ 1
   unfolding strayOf
   stray-mid h k =
-      on-test (fitsKind Binary (sampleOf Binary32 b))
+      on-test (fitsKind Binary (decoded Binary32 b))
       (λ t. absurd (let q = fits-told (wordOf b) t (omega arith) (λ l. absurd (omega arith)) in omega arith))
       (λ t. rw t)
 
-  pub stray-fits : strayOf b ≡ 0 → fitsKind Binary (sampleOf Binary32 b) ≡ true
+  pub stray-fits : strayOf b ≡ 0 → fitsKind Binary (decoded Binary32 b) ≡ true
   unfolding strayOf
   stray-fits e =
-      on-test (fitsKind Binary (sampleOf Binary32 b)) (λ t. t) (λ t. let q : _≡_ {A = ℕ} 1 0 = rw t at e in clash (sym q))
+      on-test (fitsKind Binary (decoded Binary32 b)) (λ t. t) (λ t. let q : _≡_ {A = ℕ} 1 0 = rw t at e in clash (sym q))
 
-  pub fits-stray : fitsKind Binary (sampleOf Binary32 b) ≡ true → strayOf b ≡ 0
+  pub fits-stray : fitsKind Binary (decoded Binary32 b) ≡ true → strayOf b ≡ 0
   unfolding strayOf
   fits-stray t = rw t
 
@@ -118,7 +118,7 @@ same-low n =
     let low : (n + 4294901760) % 256 ≡ n % 256 = omega arith in
     let high : (n + 4294901760) / 256 ≡ n / 256 + 16776960 = omega arith in
     let both : (k : ℕ) → (k + 16776960) % 256 ≡ k % 256 = λ k. omega arith in
-    rw (two-bytes, two-bytes, low, high, both)
+    rw (word-two-bytes, word-two-bytes, low, high, both)
 
 pub narrowed-bytes : (b : List ℕ) → wordOf b < 4294967296 → strayOf b ≡ 0 → recoded Binary32 Binary b ≡ wordBytes 2 (wordOf b)
 unfolding recoded unsignedOf
@@ -135,7 +135,7 @@ narrowed-bytes b h fit =
 
 pub stray-le : (b : List ℕ) → strayOf b ≤ 1
 unfolding strayOf
-stray-le b = on-test (fitsKind Binary (sampleOf Binary32 b)) (λ t. rw t (omega arith)) (λ t. rw t (omega arith))
+stray-le b = on-test (fitsKind Binary (decoded Binary32 b)) (λ t. rw t (omega arith)) (λ t. rw t (omega arith))
 
 -- many samples
 pub length-recoded : (k m : Kind) (b : List ℕ) → length (recoded k m b) ≡ widthOf m
@@ -163,8 +163,8 @@ module _ (b : List ℕ) where
       (lt-or-ge i a)
 
   module _ (a : ℕ) where
-    at : (i : ℕ) → i < a → getD (samplesIn Binary32 a b) i (pos 0) ≡ sampleOf Binary32 (bytesAt Binary32 b i)
-    at i h = getD-tab (λ j. sampleOf Binary32 (bytesAt Binary32 b j)) a i (pos 0) h
+    at : (i : ℕ) → i < a → getD (samplesIn Binary32 a b) i (pos 0) ≡ decoded Binary32 (bytesAt Binary32 b i)
+    at i h = getD-tab (λ j. decoded Binary32 (bytesAt Binary32 b j)) a i (pos 0) h
 
     -- sample i fits in 16 bits
     abbrev pub narrow : ℕ → Bool
@@ -177,13 +177,13 @@ module _ (b : List ℕ) where
     pub search-here : (i : ℕ) → i < a → (strayOf (bytesAt Binary32 b i) ≡ 0 → ⊥) → failsFrom narrow i (a - i) ≡ i
     search-here i h n =
         fail-step narrow i a h
-        ∙ on-test (fitsKind Binary (sampleOf Binary32 (bytesAt Binary32 b i)))
+        ∙ on-test (fitsKind Binary (decoded Binary32 (bytesAt Binary32 b i)))
         (λ t. absurd (n (fits-stray (bytesAt Binary32 b i) t)))
         (λ t. rw (at i h, t))
 
-    pub counted : straysOf b a ≡ 0 → firstStray a b ≡ a
+    pub none-strays : straysOf b a ≡ 0 → firstStray a b ≡ a
     unfolding firstStray
-    counted e =
+    none-strays e =
         all-misfit Binary (samplesIn Binary32 a b) a
         (λ i h. rw (at i h) (stray-fits (bytesAt Binary32 b i) (none-counted a e i h)))
 

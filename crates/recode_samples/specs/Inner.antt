@@ -14,12 +14,12 @@ use Rattle.model.specs.Kinds.{widthOf, halfOf, fitsKind}
 use Rattle.model.specs.Rows.{misfit}
 
 -- the sample that bytes are in a kind
-abbrev pub sampleOf : Kind → List ℕ → ℤ
-sampleOf k b = signedOf (halfOf k) (wordOf b)
+abbrev pub decoded : Kind → List ℕ → ℤ
+decoded k b = signedOf (halfOf k) (wordOf b)
 
 -- the bytes of a sample in a kind
-abbrev pub codeOf : Kind → ℤ → List ℕ
-codeOf k z = wordBytes (widthOf k) (unsignedOf (halfOf k) z)
+abbrev pub encoded : Kind → ℤ → List ℕ
+encoded k z = wordBytes (widthOf k) (unsignedOf (halfOf k) z)
 
 -- the bytes of sample i among samples of a kind
 abbrev pub bytesAt : Kind → List ℕ → ℕ → List ℕ
@@ -27,11 +27,11 @@ bytesAt k b i = part (i * widthOf k) (i * widthOf k + widthOf k) b
 
 -- a samples of kind k, as numbers
 abbrev pub samplesIn : Kind → ℕ → List ℕ → List ℤ
-samplesIn k a b = tab (λ i. sampleOf k (bytesAt k b i)) a
+samplesIn k a b = tab (λ i. decoded k (bytesAt k b i)) a
 
 -- the bytes of a sample of kind k, in kind m
 unfoldable pub recoded : Kind → Kind → List ℕ → List ℕ
-recoded k m b = codeOf m (sampleOf k b)
+recoded k m b = encoded m (decoded k b)
 
 -- the bytes of a samples of kind k, in kind m
 unfoldable pub recodedAll : Kind → Kind → ℕ → List ℕ → List ℕ
@@ -39,7 +39,7 @@ recodedAll k m a b = cat (λ i. recoded k m (bytesAt k b i)) a
 
 -- whether a sample of 32 bits does not fit in 16: 1 or 0
 unfoldable pub strayOf : List ℕ → ℕ
-strayOf b = if fitsKind Binary (sampleOf Binary32 b) then 0 else 1
+strayOf b = if fitsKind Binary (decoded Binary32 b) then 0 else 1
 
 -- how many of a samples of 32 bits do not
 unfoldable pub straysOf : List ℕ → ℕ → ℕ

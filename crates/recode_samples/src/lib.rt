@@ -16,7 +16,7 @@ const NARROW: usize = Kind::WIDTH_BINARY;
 const WIDE: usize = Kind::WIDTH_BINARY32;
 
 // The first number of 32 bits that is too large for 16, and the first after it that is not.
-const TOO_LARGE: u32 = Kind::HALF_BINARY;
+const FIRST_STRAY: u32 = Kind::HALF_BINARY;
 
 const LARGE_AGAIN: u32 = Kind::HALF_BINARY32 - Kind::HALF_BINARY + Kind::HALF_BINARY32;
 
@@ -61,7 +61,7 @@ fn extended(n: u32) -> u32
     requires { ⌜ n < 65536 ⌝ }
     ensures { λ r. ⌜ r ≡ unsignedOf (halfOf Binary32) (signedOf (halfOf Binary) n) ⌝ }
 {
-    let up = (n + TOO_LARGE) % 65536;
+    let up = (n + FIRST_STRAY) % 65536;
     ((up as u64 + LARGE_AGAIN as u64) % 4294967296) as u32
 }
 
@@ -131,7 +131,7 @@ fn stray(b: &[u8]) -> u32
     ensures { λ r. ⌜ r ≡ strayOf (now (b .entry)) ⌝ }
 {
     let n = four(b);
-    if n < TOO_LARGE {
+    if n < FIRST_STRAY {
         0
     } else if n < LARGE_AGAIN {
         1
@@ -173,7 +173,7 @@ fn find_stray(a: usize, b: &[u8]) -> usize
     i
 }
 
-// The same; they are counted first, since most rows have none.
+// The same; they are none-strays first, since most rows have none.
 pub fn first_stray(a: usize, b: &[u8]) -> usize
     requires { ⌜ (a ≤ 96) × (length (now b) ≡ a * widthOf Binary32) ⌝ }
     ensures { λ r. ⌜ r ≡ firstStray a (now (b .entry)) ⌝ }

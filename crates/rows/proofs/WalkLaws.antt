@@ -4,7 +4,7 @@
 --     walk-turn                 a turn of the check over the rows
 --     fine-walk                 the file is fine where the walk finds it so
 --     fine-taken                a row that is fine takes what a row there takes
---     taken-within, has-row     a row lies within what is left
+--     here-within, has-row      a row lies within what is left
 -- Assumes nothing.
 use mathlib.Core.Path.{_≡_, refl, sym, ap, _∙_}
 use mathlib.Core.List.{List}
@@ -37,9 +37,9 @@ walk-turn l t i rows h = let e : rows - i ≡ suc (rows - (i + 1)) = omega arith
 
 -- a text
 module _ (l : Layout) (text : l .kind ≡ Ascii) where
-  text-check : (n : ℕ) (t : List ℕ) → checkHere l n t ≡ ascii_file.checkRow l n t
+  text-check : (n : ℕ) (t : List ℕ) → checkHere l n t ≡ ascii_file.takeRow l n t
   unfolding checkHere
-  text-check n t = text-kind (l .kind) (ascii_file.checkRow l n t) (fineHere l n t) text
+  text-check n t = text-kind (l .kind) (ascii_file.takeRow l n t) (fineHere l n t) text
 
   text-rest : (s : List ℕ) (i : ℕ) → restOf l s i ≡ ascii_file.afterRows i s
   unfolding restOf
@@ -49,18 +49,18 @@ module _ (l : Layout) (text : l .kind ≡ Ascii) where
   unfolding takenHere
   text-taken t = text-kind (l .kind) (ascii_file.lineTaken (ascii_file.scanRow t)) (binary.rowSize l) text
 
-  text-walk : (t : List ℕ) (n m : ℕ) → walkFine l t n m ≡ ascii_file.checkRows l t n m
-  unfolding walkFine ascii_file.checkRows endFine
+  text-walk : (t : List ℕ) (n m : ℕ) → walkFine l t n m ≡ ascii_file.checkLines l t n m
+  unfolding walkFine ascii_file.checkLines endFine
   text-walk t n zero = text-kind (l .kind) (ascii_file.checkEnd n t) (says tt) text
   text-walk t n (suc m) =
       rw (text-check n t)
-      (bind-ext (ascii_file.checkRow l n t) (λ k. walkFine l (drop k t) (n + 1) m) (λ k. ascii_file.checkRows l (drop k t) (n + 1) m) (λ k. text-walk (drop k t) (n + 1) m))
+      (bind-ext (ascii_file.takeRow l n t) (λ k. walkFine l (drop k t) (n + 1) m) (λ k. ascii_file.checkLines l (drop k t) (n + 1) m) (λ k. text-walk (drop k t) (n + 1) m))
 
 -- a file of the binary kinds
 module _ (l : Layout) (other : l .kind ≡ Ascii → ⊥) where
   binary-check : (n : ℕ) (t : List ℕ) → checkHere l n t ≡ fineHere l n t
   unfolding checkHere
-  binary-check n t = binary-kind (l .kind) (ascii_file.checkRow l n t) (fineHere l n t) other
+  binary-check n t = binary-kind (l .kind) (ascii_file.takeRow l n t) (fineHere l n t) other
 
   binary-rest : (s : List ℕ) (i : ℕ) → restOf l s i ≡ drop (i * binary.rowSize l) s
   unfolding restOf
@@ -95,12 +95,12 @@ module _ (l : Layout) (other : l .kind ≡ Ascii → ⊥) where
 
 pub rest-none : (l : Layout) (s : List ℕ) → restOf l s 0 ≡ s
 rest-none l s =
-    by-kind (l .kind) (λ e. rw (text-rest l e s 0) (text-laws.after-none s)) (λ e. rw (binary-rest l e s 0, zero-mul))
+    by-kind (l .kind) (λ e. rw (text-rest l e s 0) (text-laws.rows-none s)) (λ e. rw (binary-rest l e s 0, zero-mul))
 
 pub rest-next : (l : Layout) (s : List ℕ) (i : ℕ) → restOf l s (i + 1) ≡ drop (takenHere l (restOf l s i)) (restOf l s i)
 rest-next l s i =
     by-kind (l .kind)
-    (λ e. rw (text-taken l e (restOf l s i), text-rest l e s i, text-rest l e s (i + 1)) (text-laws.after-next i s))
+    (λ e. rw (text-taken l e (restOf l s i), text-rest l e s i, text-rest l e s (i + 1)) (text-laws.rows-after i s))
     (λ e. rw (binary-taken l e (restOf l s i), binary-rest l e s i, binary-rest l e s (i + 1)) (sym (next l e s i)))
 
 pub row-here : (l : Layout) (s : List ℕ) (i : ℕ) → rowAt l s i ≡ rowHere l (restOf l s i)
@@ -139,14 +139,14 @@ fine-walk l s =
 pub fine-taken : (l : Layout) (n : ℕ) (t : List ℕ) (k : ℕ) → checkHere l n t ≡ says k → takenHere l t ≡ k
 fine-taken l n t k h =
     by-kind (l .kind)
-    (λ e. let f = text-laws.row-fine l n t k (sym (text-check l e n t) ∙ h) in rw (text-taken l e t, f .scanned) (sym (f .takes)))
+    (λ e. let f = text-laws.row-takes-told l n t k (sym (text-check l e n t) ∙ h) in rw (text-taken l e t, f .scanned) (sym (f .takes)))
     (λ e.
     let told = then-told (binary.checkRow l n (take (binary.rowSize l) t)) (says (binary.rowSize l)) k (sym (binary-check l e n t) ∙ h) in
     binary-taken l e t ∙ cc (told .1))
 
-pub taken-within : (l : Layout) (t : List ℕ) → HasRow l t → takenHere l t ≤ length t
-taken-within l t h =
-    by-kind (l .kind) (λ e. rw (text-taken l e t) (text-laws.taken-within t)) (λ e. rw (binary-taken l e t) (h e))
+pub here-within : (l : Layout) (t : List ℕ) → HasRow l t → takenHere l t ≤ length t
+here-within l t h =
+    by-kind (l .kind) (λ e. rw (text-taken l e t) (text-laws.line-taken-within t)) (λ e. rw (binary-taken l e t) (h e))
 
 pub has-row : (l : Layout) (s : List ℕ) → startFine l s ≡ says tt → (i : ℕ) → i < l .rows → HasRow l (restOf l s i)
 unfolding startFine

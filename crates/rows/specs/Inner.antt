@@ -12,7 +12,7 @@ use Rattle.model.specs.declared.Refusal.{Refusal}
 use Rattle.ascii_row.specs.Rows as ascii
 use Rattle.binary_row.specs.Rows as binary
 use Rattle.binary_file.specs.Files.{checkLength}
-use Rattle.ascii_file.specs.Files.{scanRow, lineTaken, firstLine, afterRows, checkRow, checkEnd}
+use Rattle.ascii_file.specs.Files.{scanRow, lineTaken, firstLine, afterRows, takeRow, checkEnd}
 use Rattle.row_bytes.specs.Rows.{byKind}
 
 -- how many bytes the row takes with which t begins
@@ -43,7 +43,7 @@ fineHere l n t = do
 
 -- row n, with which t begins, is fine: how many bytes it takes
 unfoldable pub checkHere : Layout → ℕ → List ℕ → Said Refusal ℕ
-checkHere l n t = byKind (l .kind) (checkRow l n t) (fineHere l n t)
+checkHere l n t = byKind (l .kind) (takeRow l n t) (fineHere l n t)
 
 -- the file may be walked: one of the binary kinds has its length
 unfoldable pub startFine : Layout → List ℕ → Said Refusal (Unit {0})

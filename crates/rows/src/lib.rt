@@ -53,7 +53,7 @@ fn binary_time_here(layout: Layout, rest: &[u8]) -> u32
     ensures { λ r. ⌜ r ≡ binaryHere layout (now (rest .entry)) .time ⌝ }
 {
     let size = binary_row::row_size(layout);
-    binary_row::time_of(&rest[..size])
+    binary_row::row_time(&rest[..size])
 }
 
 // Its samples, and zeros.
@@ -108,7 +108,7 @@ pub fn check_here(layout: Layout, n: u32, rest: &[u8]) -> Checked
 {
     let kind = layout.kind;
     match kind {
-        Kind::Ascii => ascii_file::check_row(layout, n, rest),
+        Kind::Ascii => ascii_file::take_row(layout, n, rest),
         Kind::Binary | Kind::Binary32 => check_binary_here(layout, n, rest),
     }
 }

@@ -1,5 +1,5 @@
 -- `ascii_file::after_rows` meets its contract. The loop's invariant: t is what follows the first k rows, and is no longer than the text.
-use Rattle.ascii_file.proofs.Laws.{taken-within, after-none, after-next}
+use Rattle.ascii_file.proofs.Laws.{line-taken-within, rows-none, rows-after}
 use Rattle.ascii_file.specs.Files.{afterRows}
 use Rattle.ground.proofs.Walk.{rest}
 use lib.ListN.{length, length-drop}
@@ -17,13 +17,13 @@ abbrev μ-loop : tie.MeasureT-loop
 μ-loop «data» i t₀ k₀ t k = i - k
 
 loop-holds : tie.Need-loop-holds Inv-loop μ-loop
-loop-holds c = (omega arith, sym (after-none (c .before .args .«data» .now)), omega arith)
+loop-holds c = (omega arith, sym (rows-none (c .before .args .«data» .now)), omega arith)
 
 line-taken-requires : tie.Need-line-taken-requires Inv-loop μ-loop
 line-taken-requires c κs = search needs
 
 sub-t : tie.Need-sub-t Inv-loop μ-loop
-sub-t c = rw (c .line-taken .ensures) (taken-within (c .before .before .loop .t .now))
+sub-t c = rw (c .line-taken .ensures) (line-taken-within (c .before .before .loop .t .now))
 
 part-t-start : tie.Need-part-t-start Inv-loop μ-loop
 part-t-start c = sub-t c
@@ -40,7 +40,7 @@ loop-less c = omega arith
 loop-again : tie.Need-loop-again Inv-loop μ-loop
 loop-again c = (
   rw (rest, length-drop) (omega arith),
-  rw (rest, after-next, ← c .before .before .before .loop .inv .1, ← c .before .line-taken .ensures),
+  rw (rest, rows-after, ← c .before .before .before .loop .inv .1, ← c .before .line-taken .ensures),
   omega arith,
 )
 

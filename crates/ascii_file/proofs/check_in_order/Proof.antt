@@ -1,6 +1,6 @@
 -- `ascii_file::check_in_order` meets its contract: the scan, then the check of the line that was found.
 use Prim.Native.Nat.{_+_}
-use Rattle.ascii_file.specs.Files.{checkRow}
+use Rattle.ascii_file.specs.Files.{takeRow}
 use Rattle.ascii_row.specs.Rows.{checkLine}
 use Rattle.model.proofs.AnswerLaws.{yes-told, no-told}
 use Rattle.text.proofs.LineLaws.{Lies, line-found}
@@ -47,23 +47,23 @@ refused-requires-2 : tie.Need-refused-requires-2
 refused-requires-2 c κs = search needs
 
 returns : tie.Need-returns
-unfolding checkRow
+unfolding takeRow
 returns c =
     let told = yes-told (checkLine (c .before .before .before .before .before .before .before .before .before .args .layout) (c .before .before .before .before .before .before .before .before .before .args .n) (take (c .before .before .before .before .before .len .given .0 .0) (c .before .before .before .before .before .before .before .before .before .args .rest .now))) (sym (c .before .before .check-line .ensures) ∙ c .enum-told .given .1) in
     rw (← c .before .before .before .before .before .before .before .scan-line .ensures, c .before .before .before .before .before .len .given .1, told, line (c .before .before .before .before) .0)
 
 returns-2 : tie.Need-returns-2
-unfolding checkRow
+unfolding takeRow
 returns-2 c =
     let told = no-told (checkLine (c .before .before .before .before .before .before .before .before .before .before .args .layout) (c .before .before .before .before .before .before .before .before .before .before .args .n) (take (c .before .before .before .before .before .before .len .given .0 .0) (c .before .before .before .before .before .before .before .before .before .before .args .rest .now))) (c .before .refusal .given .0 .0) (sym (c .before .before .before .check-line .ensures) ∙ c .before .refusal .given .1) in
     rw (← c .before .before .before .before .before .before .before .before .scan-line .ensures, c .before .before .before .before .before .before .len .given .1, told)
 
 returns-3 : tie.Need-returns-3
-unfolding checkRow
+unfolding takeRow
 returns-3 c = rw (c .refused .ensures, ← c .before .before .before .scan-line .ensures, c .before .enum-told2 .given .1)
 
 returns-4 : tie.Need-returns-4
-unfolding checkRow
+unfolding takeRow
 returns-4 c = rw (c .refused2 .ensures, ← c .before .before .before .scan-line .ensures, c .before .enum-told3 .given .1)
 
 pub check-in-order-spec : {M : Type 1} → statement M

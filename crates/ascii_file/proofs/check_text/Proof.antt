@@ -1,8 +1,8 @@
 -- `ascii_file::check_text` meets its contract. The loop's invariant: the check of the file is that of the rows from row n on, with which t begins, and of the end.
 -- The measure is how many rows are left.
 use Rattle.ground.specs.Said.{says}
-use Rattle.ascii_file.proofs.Laws.{takes-told, not-told, row-fine, rows-turn}
-use Rattle.ascii_file.specs.Files.{checkRow, checkRows, checkText}
+use Rattle.ascii_file.proofs.Laws.{takes-told, not-told, row-takes-told, rows-turn}
+use Rattle.ascii_file.specs.Files.{takeRow, checkLines, checkText}
 use Rattle.ground.proofs.Walk.{rest}
 use lib.ListN.{length, length-drop}
 use native.Mathlib.Omega.{arith}
@@ -13,7 +13,7 @@ use Rattle.ascii_file.proofs.check_text.Statement.{statement}
 use Rattle.ascii_file.proofs.check_text.Tie as tie
 
 abbrev Inv-loop : tie.InvT-loop
-Inv-loop layout «data» rows t₀ n₀ t n = (length t ≤ length «data») × (1 ≤ n) × (n ≤ rows + 1) × (checkRows layout «data» 1 rows ≡ checkRows layout t n (rows + 1 - n))
+Inv-loop layout «data» rows t₀ n₀ t n = (length t ≤ length «data») × (1 ≤ n) × (n ≤ rows + 1) × (checkLines layout «data» 1 rows ≡ checkLines layout t n (rows + 1 - n))
 
 abbrev μ-loop : tie.MeasureT-loop
 μ-loop layout «data» rows t₀ n₀ t n = rows + 1 - n
@@ -23,8 +23,8 @@ loop-holds c =
     let e : c .before .args .layout .rows + 1 - 1 ≡ c .before .args .layout .rows = omega arith in
     (omega arith, omega arith, omega arith, rw e)
 
-check-row-requires : tie.Need-check-row-requires Inv-loop μ-loop
-check-row-requires c κs = search needs
+take-row-requires : tie.Need-take-row-requires Inv-loop μ-loop
+take-row-requires c κs = search needs
 
 enum-known-refusal : tie.Need-enum-known-refusal Inv-loop μ-loop
 enum-known-refusal c = search needs
@@ -32,18 +32,18 @@ enum-known-refusal c = search needs
 returns : tie.Need-returns Inv-loop μ-loop
 unfolding checkText
 returns c =
-    let told = not-told (checkRow (c .before .before .before .before .before .before .before .args .layout) (c .before .before .before .before .before .loop .n) (c .before .before .before .before .before .loop .t .now)) (c .before .refusal .given .0 .0) (sym (c .before .before .before .check-row .ensures) ∙ c .before .refusal .given .1) in
+    let told = not-told (takeRow (c .before .before .before .before .before .before .before .args .layout) (c .before .before .before .before .before .loop .n) (c .before .before .before .before .before .loop .t .now)) (c .before .refusal .given .0 .0) (sym (c .before .before .before .take-row .ensures) ∙ c .before .refusal .given .1) in
     rw (c .before .before .before .before .before .loop .inv .3, rows-turn _ (c .before .before .before .before .before .loop .t .now) (c .before .before .before .before .before .loop .n) (c .before .before .before .before .before .before .before .args .layout .rows + 1) (omega (arith, c .before .before .before .before .loop-test .taken)), told)
 
 enum-known-taken : tie.Need-enum-known-taken Inv-loop μ-loop
 enum-known-taken c = search needs
     -- what the row takes
 
-told : (c : tie.After-known-told2 Inv-loop μ-loop) → checkRow (c .before .before .before .before .before .before .before .args .layout) (c .before .before .before .before .before .loop .n) (c .before .before .before .before .before .loop .t .now) ≡ says (c .before .taken .given .0 .0)
-told c = takes-told (checkRow (c .before .before .before .before .before .before .before .args .layout) (c .before .before .before .before .before .loop .n) (c .before .before .before .before .before .loop .t .now)) (c .before .taken .given .0 .0) (sym (c .before .before .before .check-row .ensures) ∙ c .before .taken .given .1)
+told : (c : tie.After-known-told2 Inv-loop μ-loop) → takeRow (c .before .before .before .before .before .before .before .args .layout) (c .before .before .before .before .before .loop .n) (c .before .before .before .before .before .loop .t .now) ≡ says (c .before .taken .given .0 .0)
+told c = takes-told (takeRow (c .before .before .before .before .before .before .before .args .layout) (c .before .before .before .before .before .loop .n) (c .before .before .before .before .before .loop .t .now)) (c .before .taken .given .0 .0) (sym (c .before .before .before .take-row .ensures) ∙ c .before .taken .given .1)
 
 sub-t : tie.Need-sub-t Inv-loop μ-loop
-sub-t c = row-fine (c .before .before .before .before .before .before .before .args .layout) (c .before .before .before .before .before .loop .n) (c .before .before .before .before .before .loop .t .now) _ (told c) .within
+sub-t c = row-takes-told (c .before .before .before .before .before .before .before .args .layout) (c .before .before .before .before .before .loop .n) (c .before .before .before .before .before .loop .t .now) _ (told c) .within
 
 part-t-start : tie.Need-part-t-start Inv-loop μ-loop
 part-t-start c = sub-t c
@@ -69,7 +69,7 @@ check-end-requires : tie.Need-check-end-requires Inv-loop μ-loop
 check-end-requires c κs = search needs
 
 returns-2 : tie.Need-returns-2 Inv-loop μ-loop
-unfolding checkText checkRows
+unfolding checkText checkLines
 returns-2 c =
     let e : c .before .before .before .before .args .layout .rows + 1 - c .before .before .loop .n ≡ 0 = omega (arith, c .before .loop-test .left) in
     rw (c .check-end .ensures, c .before .before .loop .inv .3, e)
@@ -81,7 +81,7 @@ check-text-spec =
     Inv-loop
     μ-loop
     loop-holds
-    check-row-requires
+    take-row-requires
     enum-known-refusal
     returns
     enum-known-taken

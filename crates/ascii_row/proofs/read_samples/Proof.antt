@@ -3,7 +3,7 @@
 use mir.ValLaws.{toZ-ofZ}
 use mir.Syntax.{w32}
 use Rattle.ascii_row.proofs.RowLaws.{fill-turn}
-use Rattle.ascii_row.specs.Rows.{sampleAt}
+use Rattle.ascii_row.specs.Rows.{fieldSample}
 use Rattle.ascii_row.specs.Fields.{sampleIn}
 use Rattle.text.proofs.FieldLaws.{field-within, after-none}
 use Rattle.text.specs.Fields.{afterFields}
@@ -19,7 +19,7 @@ use Rattle.ascii_row.proofs.read_samples.Statement.{statement}
 use Rattle.ascii_row.proofs.read_samples.Tie as tie
 
 abbrev Inv-loop : tie.InvT-loop
-Inv-loop fields d₀ t₀ i₀ d t i = (length t ≤ length fields) × (i ≤ length d₀) × (length d ≡ length d₀) × (t ≡ afterFields i fields) × (d ≡ tab (sampleAt fields) i ++ drop i d₀)
+Inv-loop fields d₀ t₀ i₀ d t i = (length t ≤ length fields) × (i ≤ length d₀) × (length d ≡ length d₀) × (t ≡ afterFields i fields) × (d ≡ tab (fieldSample fields) i ++ drop i d₀)
 
 abbrev μ-loop : tie.MeasureT-loop
 μ-loop fields d₀ t₀ i₀ d t i = length d - i

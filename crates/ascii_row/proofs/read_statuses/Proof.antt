@@ -1,7 +1,7 @@
 -- `ascii_row::read_statuses` meets its contract. The loop's invariant: t is what follows the first i fields, and the slice begins with what they say; the rest is as it was.
 -- The measure is what is left of the slice.
 use Rattle.ascii_row.proofs.RowLaws.{fill-turn}
-use Rattle.ascii_row.specs.Rows.{statusAt}
+use Rattle.ascii_row.specs.Rows.{fieldStatus}
 use Rattle.ascii_row.specs.Fields.{statusIn}
 use Rattle.text.proofs.FieldLaws.{field-within, after-none}
 use Rattle.text.specs.Fields.{afterFields}
@@ -17,7 +17,7 @@ use Rattle.ascii_row.proofs.read_statuses.Statement.{statement}
 use Rattle.ascii_row.proofs.read_statuses.Tie as tie
 
 abbrev Inv-loop : tie.InvT-loop
-Inv-loop fields d₀ t₀ i₀ d t i = (length t ≤ length fields) × (i ≤ length d₀) × (length d ≡ length d₀) × (t ≡ afterFields i fields) × (d ≡ tab (statusAt fields) i ++ drop i d₀)
+Inv-loop fields d₀ t₀ i₀ d t i = (length t ≤ length fields) × (i ≤ length d₀) × (length d ≡ length d₀) × (t ≡ afterFields i fields) × (d ≡ tab (fieldStatus fields) i ++ drop i d₀)
 
 abbrev μ-loop : tie.MeasureT-loop
 μ-loop fields d₀ t₀ i₀ d t i = length d - i

@@ -1,5 +1,5 @@
 -- `ascii_row::samples_of` meets its contract: what the fields say fills the first a places, and the rest is as it was, zero.
-use Rattle.ascii_row.specs.Rows.{sampleAt}
+use Rattle.ascii_row.specs.Rows.{fieldSample}
 use Rattle.ground.proofs.Filled.{front-length, padded-fill}
 use lib.IntN.{pos}
 use mathlib.Core.Path.{sym}
@@ -17,7 +17,7 @@ read-samples-requires : tie.Need-read-samples-requires
 read-samples-requires c κs = search needs
 
 returns : tie.Need-returns
-returns c = padded-fill (c .before .before .before .before .args .a) 96 (pos 0) (c .before .before .before .before .pre) (sampleAt (c .before .before .before .before .args .fields .now)) (c .before .read-samples .last .1 .0) (c .before .read-samples .ensures)
+returns c = padded-fill (c .before .before .before .before .args .a) 96 (pos 0) (c .before .before .before .before .pre) (fieldSample (c .before .before .before .before .args .fields .now)) (c .before .read-samples .last .1 .0) (c .before .read-samples .ensures)
 
 pub samples-of-spec : {M : Type 1} → statement M
 samples-of-spec =

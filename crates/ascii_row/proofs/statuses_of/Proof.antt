@@ -1,5 +1,5 @@
 -- `ascii_row::statuses_of` meets its contract: what the fields say fills the first d places, and the rest is as it was, zero.
-use Rattle.ascii_row.specs.Rows.{statusAt}
+use Rattle.ascii_row.specs.Rows.{fieldStatus}
 use Rattle.ground.proofs.Filled.{front-length, padded-fill}
 use mathlib.Core.Bool.{false}
 use mathlib.Core.Path.{sym}
@@ -17,7 +17,7 @@ read-statuses-requires : tie.Need-read-statuses-requires
 read-statuses-requires c κs = search needs
 
 returns : tie.Need-returns
-returns c = padded-fill (c .before .before .before .before .args .d) 256 false (c .before .before .before .before .pre) (statusAt (c .before .before .before .before .args .fields .now)) (c .before .read-statuses .last .1 .0) (c .before .read-statuses .ensures)
+returns c = padded-fill (c .before .before .before .before .args .d) 256 false (c .before .before .before .before .pre) (fieldStatus (c .before .before .before .before .args .fields .now)) (c .before .read-statuses .last .1 .0) (c .before .read-statuses .ensures)
 
 pub statuses-of-spec : {M : Type 1} → statement M
 statuses-of-spec =

@@ -1,6 +1,6 @@
 -- `ascii_walk::row_end` meets its contract: each part was read from where the one before it ends.
 use native.Mathlib.Omega.{arith}
-use Rattle.ascii_walk.proofs.WalkLaws.{next-time, row-there}
+use Rattle.ascii_walk.proofs.WalkLaws.{next-time, row-walked}
 use borrow.Author.Needs.{needs}
 use Rattle.ascii_walk.proofs.row_end.Statement.{statement}
 use Rattle.ascii_walk.proofs.row_end.Tie as tie
@@ -44,7 +44,7 @@ returns-5 c = λ h.
     let s = c .before .before .before .before .before .before .before .before .before .before .before .before .args .s .now in
     let e = c .line-end .ensures h in
     rw (e .takes)
-    (row-there l _ s _ _ _ _ (c .before .before .before .before .before .before .before .before .number-end .ensures (c .before .before .before .before .before .before .before .if1 .left)) (next-time (l .analogs) s _ _ (c .before .before .before .before .before .before .time-end .ensures (c .before .before .before .before .before .if2 .left))) (c .before .before .before .before .samples-end .ensures (c .before .before .before .if3 .left) .1) (c .before .before .statuses-end .ensures (c .before .if4 .left) .1 (l .analogs)) (e .within) (e .short) (e .cr) (e .lf))
+    (row-walked l _ s _ _ _ _ (c .before .before .before .before .before .before .before .before .number-end .ensures (c .before .before .before .before .before .before .before .if1 .left)) (next-time (l .analogs) s _ _ (c .before .before .before .before .before .before .time-end .ensures (c .before .before .before .before .before .if2 .left))) (c .before .before .before .before .samples-end .ensures (c .before .before .before .if3 .left) .1) (c .before .before .statuses-end .ensures (c .before .if4 .left) .1 (l .analogs)) (e .within) (e .short) (e .cr) (e .lf))
 
 pub row-end-spec : {M : Type 1} → statement M
 row-end-spec =

@@ -5,7 +5,7 @@ use lib.Dec.{eqb}
 use native.Mathlib.Omega.{arith}
 use borrow.Author.Needs.{needs}
 use borrow.Author.Tests.{eq-eqb, ne-eqb, not-true, not-false}
-use Rattle.binary_row.specs.Rows.{paddingFree, numberOfRow, wordsPart, checkRow}
+use Rattle.binary_row.specs.Rows.{paddingFree, rowNumber, wordsPart, checkRow}
 use Rattle.binary_row.proofs.SizeLaws.{sizes, words-length}
 use Rattle.binary_row.proofs.check_row.Statement.{statement}
 use Rattle.binary_row.proofs.check_row.Tie as tie
@@ -52,7 +52,7 @@ padding-free-requires c κs =
     (s .pre .0 .statuses, rw (c .before .before .before .before .samples-end .ensures, s .pre .1) (words-length (s .args .layout) (s .args .bytes .now) (s .pre .1)))
 
 -- the number is the row's
-number : (c : tie.Else1) → let s = c .before .before .before .before .before .before .args in eqb (numberOfRow (s .bytes .now)) (s .n) ≡ true
+number : (c : tie.Else1) → let s = c .before .before .before .before .before .before .args in eqb (rowNumber (s .bytes .now)) (s .n) ≡ true
 number c = rw (← c .before .word-of .ensures, eq-eqb (c .before .word-of .result) (c .before .before .before .before .before .before .args .n) (c .if1 .left))
 
 -- the padding, by the definition's part of the row

@@ -12,8 +12,8 @@ cast-d c = search needs
 samples-end-requires : tie.Need-samples-end-requires
 samples-end-requires c κs = search needs
 
-time-of-requires : tie.Need-time-of-requires
-time-of-requires c κs = omega (arith, sizes (c .before .before .before .args .layout))
+row-time-requires : tie.Need-row-time-requires
+row-time-requires c κs = omega (arith, sizes (c .before .before .before .args .layout))
 
 row-samples-requires : tie.Need-row-samples-requires
 row-samples-requires c κs = search needs
@@ -34,7 +34,7 @@ statuses-of-requires c κs =
 
 returns : tie.Need-returns
 unfolding rowOf
-returns c = rw (c .before .before .before .time-of .ensures, c .before .before .row-samples .ensures, c .statuses-of .ensures, c .before .before .before .before .samples-end .ensures, c .before .before .before .before .before .before .before .pre .1)
+returns c = rw (c .before .before .before .row-time .ensures, c .before .before .row-samples .ensures, c .statuses-of .ensures, c .before .before .before .before .samples-end .ensures, c .before .before .before .before .before .before .before .pre .1)
 
 pub row-of-spec : {M : Type 1} → statement M
 row-of-spec =
@@ -42,7 +42,7 @@ row-of-spec =
     (tie.spec
     cast-d
     samples-end-requires
-    time-of-requires
+    row-time-requires
     row-samples-requires
     sub-statuses-of
     part-statuses-of-start

@@ -14,12 +14,12 @@ use Rattle.ground.proofs.Tables.{block-end, padded-set}
 use Rattle.words.proofs.WordLaws.{all-bytes, wordOf-part-lt}
 use Rattle.model.specs.Kinds.{widthOf}
 use Rattle.model.proofs.KindLaws.{half-le, kind-half-twice, width-le}
-use Rattle.binary_row.specs.Rows.{sampleAt}
+use Rattle.binary_row.specs.Rows.{bytesSample}
 use Rattle.binary_row.proofs.samples_of.Statement.{statement}
 use Rattle.binary_row.proofs.samples_of.Tie as tie
 
 abbrev Inv-loop : tie.InvT-loop
-Inv-loop a b width half out₀ i₀ out i = (i ≤ a) × (out ≡ padded (sampleAt width half b) i 96 (pos 0))
+Inv-loop a b width half out₀ i₀ out i = (i ≤ a) × (out ≡ padded (bytesSample width half b) i 96 (pos 0))
 
 abbrev μ-loop : tie.MeasureT-loop
 μ-loop a b width half out₀ i₀ out i = a - i
@@ -87,7 +87,7 @@ loop-less c = search needs
 loop-again : tie.Need-loop-again Inv-loop μ-loop
 loop-again c =
     let z = c .signed-of in
-    let f = sampleAt (c .before .before .before .before .before .before .width .result) (c .before .before .before .before .before .half .result) (c .before .before .before .before .before .before .before .before .args .b .now) in
+    let f = bytesSample (c .before .before .before .before .before .before .width .result) (c .before .before .before .before .before .half .result) (c .before .before .before .before .before .before .before .before .args .b .now) in
     let kept = toZ-ofZ w32 (z .result) (record { sfits = z .ok }) in
     (omega arith, rw (kept, z .ensures, c .before .word-of .ensures, c .before .before .before .before .loop .inv .1) (padded-set f (c .before .before .before .before .loop .i) 96 (pos 0) (omega arith)))
 

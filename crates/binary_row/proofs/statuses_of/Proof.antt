@@ -4,7 +4,7 @@ use mathlib.Core.Bool.{false}
 use Prim.Native.Nat.{ℕ, _*_}
 use native.Mathlib.Nat.{le-trans, le-of-eq}
 use borrow.Author.Needs.{needs}
-use Rattle.binary_row.specs.Rows.{wordsOf, statusAt}
+use Rattle.binary_row.specs.Rows.{wordsOf, wordStatus}
 use Rattle.ground.proofs.Filled.{front-length, padded-fill}
 use Rattle.binary_row.proofs.statuses_of.Statement.{statement}
 use Rattle.binary_row.proofs.statuses_of.Tie as tie
@@ -24,7 +24,7 @@ returns : tie.Need-returns
 returns c =
     let s = c .before .before .before .before in
     let f = c .before .unpack-words in
-    padded-fill (s .args .d) 256 false (s .pre .0) (statusAt (s .args .b .now)) (f .last .1 .0) (f .ensures)
+    padded-fill (s .args .d) 256 false (s .pre .0) (wordStatus (s .args .b .now)) (f .last .1 .0) (f .ensures)
 
 pub statuses-of-spec : {M : Type 1} → statement M
 statuses-of-spec =

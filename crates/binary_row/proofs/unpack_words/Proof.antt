@@ -9,14 +9,14 @@ use lib.ListN.{length, drop}
 use lib.Seq.{drop-length}
 use Rattle.ground.specs.Tables.{tab}
 use Rattle.ground.proofs.Parts.{length-part}
-use Rattle.binary_row.specs.Rows.{statusAt}
+use Rattle.binary_row.specs.Rows.{wordStatus}
 use Rattle.ground.proofs.Filled.{tab-turn}
 use Rattle.binary_row.proofs.BitLaws.{word-statuses}
 use Rattle.binary_row.proofs.unpack_words.Statement.{statement}
 use Rattle.binary_row.proofs.unpack_words.Tie as tie
 
 abbrev Inv-loop : tie.InvT-loop
-Inv-loop b d₀ n words j₀ d j = (j ≤ words) × (length d ≡ length d₀) × (d ≡ tab (statusAt b) (min (j * 16) n) ++ drop (min (j * 16) n) d₀)
+Inv-loop b d₀ n words j₀ d j = (j ≤ words) × (length d ≡ length d₀) × (d ≡ tab (wordStatus b) (min (j * 16) n) ++ drop (min (j * 16) n) d₀)
 
 abbrev μ-loop : tie.MeasureT-loop
 μ-loop b d₀ n words j₀ d j = words - j
@@ -81,9 +81,9 @@ loop-again c =
     let b : f ≤ t = omega arith in
     let k : t ≤ length (p .d) = omega arith in
     let m : min f n ≡ f = omega arith in
-    let y : c .before .before .unpack-word .last .1 .0 ≡ tab (λ i. statusAt (s .b .now) (f + i)) (t - f)
+    let y : c .before .before .unpack-word .last .1 .0 ≡ tab (λ i. wordStatus (s .b .now) (f + i)) (t - f)
     = c .before .before .unpack-word .ensures ∙ rw (length-part f t (p .d) k, c .before .before .before .before .before .word-of .ensures) (word-statuses (s .b .now) (p .j) (t - f) (omega arith)) in
-    let q = tab-turn (statusAt (s .b .now)) (s .d .now) (p .d) (c .before .before .unpack-word .last .1 .0) f t (p .inv .1) (rw m at (p .inv .2)) b k y in
+    let q = tab-turn (wordStatus (s .b .now)) (s .d .now) (p .d) (c .before .before .unpack-word .last .1 .0) f t (p .inv .1) (rw m at (p .inv .2)) b k y in
     let e : min ((p .j + 1) * 16) n ≡ t = omega arith in
     (omega arith, q .0, rw e (q .1))
 

@@ -1,6 +1,6 @@
 -- `recode_samples::put_four` meets its contract.
 use mathlib.Core.Path.{sym, _∙_}
-use Rattle.recode_samples.proofs.SampleLaws.{put-four, four-bytes}
+use Rattle.recode_samples.proofs.SampleLaws.{put-four, word-four-bytes}
 use borrow.Author.Needs.{needs}
 use Rattle.recode_samples.proofs.put_four.Statement.{statement}
 use Rattle.recode_samples.proofs.put_four.Tie as tie
@@ -33,7 +33,7 @@ same-length : tie.Need-same-length
 same-length c = search needs
 
 returns : tie.Need-returns
-returns c = put-four (c .args .d .now) _ _ _ _ (c .pre) ∙ sym (four-bytes (c .args .n))
+returns c = put-four (c .args .d .now) _ _ _ _ (c .pre) ∙ sym (word-four-bytes (c .args .n))
 
 pub put-four-spec : {M : Type 1} → statement M
 put-four-spec =

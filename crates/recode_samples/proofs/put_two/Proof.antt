@@ -1,7 +1,7 @@
 -- `recode_samples::put_two` meets its contract.
 use mathlib.Core.Path.{sym, _∙_}
 use Rattle.ground.proofs.Parts.{put-pair}
-use Rattle.recode_samples.proofs.SampleLaws.{two-bytes}
+use Rattle.recode_samples.proofs.SampleLaws.{word-two-bytes}
 use borrow.Author.Needs.{needs}
 use Rattle.recode_samples.proofs.put_two.Statement.{statement}
 use Rattle.recode_samples.proofs.put_two.Tie as tie
@@ -22,7 +22,7 @@ same-length : tie.Need-same-length
 same-length c = search needs
 
 returns : tie.Need-returns
-returns c = put-pair (c .args .d .now) _ _ (c .pre) ∙ sym (two-bytes (c .args .n))
+returns c = put-pair (c .args .d .now) _ _ (c .pre) ∙ sym (word-two-bytes (c .args .n))
 
 pub put-two-spec : {M : Type 1} → statement M
 put-two-spec =

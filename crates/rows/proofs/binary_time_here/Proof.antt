@@ -16,16 +16,16 @@ row-size-requires c κs = search needs
 front : (c : tie.After-row-size) → length (take (c .row-size .result) (c .before .before .args .rest .now)) ≡ c .row-size .result
 front c = length-take-le _ _ (rw (c .row-size .ensures) (c .before .before .pre .1))
 
-slice-aggregate-time-of : tie.Need-slice-aggregate-time-of
-slice-aggregate-time-of c = sym (front (c .before))
+slice-aggregate-row-time : tie.Need-slice-aggregate-row-time
+slice-aggregate-row-time c = sym (front (c .before))
 
-time-of-requires : tie.Need-time-of-requires
-time-of-requires c κs = omega (arith, front (c .before), c .before .row-size .ensures, sizes (c .before .before .before .args .layout))
+row-time-requires : tie.Need-row-time-requires
+row-time-requires c κs = omega (arith, front (c .before), c .before .row-size .ensures, sizes (c .before .before .before .args .layout))
 
 returns : tie.Need-returns
 unfolding rowOf
-returns c = rw (c .time-of .ensures, c .before .before .row-size .ensures)
+returns c = rw (c .row-time .ensures, c .before .before .row-size .ensures)
 
 pub binary-time-here-spec : {M : Type 1} → statement M
 binary-time-here-spec =
-    tie.close (tie.spec row-size-requires slice-aggregate-time-of time-of-requires returns)
+    tie.close (tie.spec row-size-requires slice-aggregate-row-time row-time-requires returns)

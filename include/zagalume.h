@@ -155,8 +155,8 @@ zl_answer zl_check(uint32_t a, uint32_t d, uint32_t rows, uint32_t kind, const u
 /*
  * Shows row n, counted from 1, of a data file that is fine as a whole.
  * Each call checks the whole file, so that all rows one by one take time that grows with the square of their number:
- * 30 s for 10,000 rows of ASCII, 32 samples and 32 statuses each. For all rows, change the file to ZL_BINARY32 once, which
- * every sample fits, and read each row from its place, as examples/c/all_rows.c does: 0.1 s for the same file, printing
+ * 28 s for 10,000 rows of ASCII, 32 samples and 32 statuses each. For all rows, change the file to ZL_BINARY32 once, which
+ * every sample fits, and read each row from its place, as examples/c/all_rows.c does: 0.05 s for the same file, printing
  * included (processor time on x86-64).
  *   Yes:    1 + a + d places of shown are written, the time, the samples and the statuses; length is 0.
  *   No:     10; 15; then the file, as zl_check; last of all 17, where shown has fewer places.

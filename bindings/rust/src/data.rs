@@ -131,7 +131,11 @@ pub fn check(layout: Layout, data: &[u8]) -> Result<(), Refusal> {
     calls::check(layout, data).map(|_| ())
 }
 
-/// Row n, counted from 1, of a data file that is fine as a whole: each call checks the whole file.
+/// Row n, counted from 1, of a data file that is fine as a whole.
+///
+/// Each call checks the whole file, so that all rows one by one take time that grows with the square of their number: 28 s for 10,000 rows of ASCII, 32 samples and 32
+/// statuses each. For all rows, [`change`] the file to [`Kind::Binary32`] once, which every sample fits, and read each row from its place, as the example `all_rows` does:
+/// 0.05 s for the same file, printing included (processor time on x86-64).
 ///
 /// Refused with 10; 15; then for the file, as [`check`].
 ///

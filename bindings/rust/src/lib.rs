@@ -12,6 +12,26 @@
 //! # Ok::<(), Box<dyn std::error::Error>>(())
 //! ```
 //!
+//! # All rows
+//!
+//! [`row`] checks the whole data file at each call. For all rows, change the file to binary32 once, which every sample fits, and read each row from its place: 4 bytes of
+//! number, 4 of time, 4 for each sample and 2 for each 16 statuses, the low byte and the low bit first. That is 0.05 s in place of 28 s for 10,000 rows of ASCII with 32
+//! samples and 32 statuses each (processor time on x86-64). The example `all_rows` reads whole rows; these are the first samples:
+//!
+//! ```
+//! let layout = zagalume::read_config(include_bytes!("../../../examples/one.cfg"))?.layout();
+//! let file = zagalume::change(layout, include_bytes!("../../../examples/one.dat"), zagalume::Kind::Binary32)?;
+//! let row_size = 8 + 4 * layout.analogs as usize + 2 * layout.statuses.div_ceil(16) as usize;
+//! let first_samples: Vec<i32> = file
+//!     .chunks_exact(row_size)
+//!     .map(|row| i32::from_le_bytes(row[8..12].try_into().unwrap()))
+//!     .collect();
+//! assert_eq!(first_samples, [-3, 300]);
+//! # Ok::<(), zagalume::Refusal>(())
+//! ```
+//!
+//! # Memory and threads
+//!
 //! The functions that end in `_into` write to what is lent and allocate nothing, as the library itself. No call keeps anything between calls, so threads may call at the same
 //! time.
 #![deny(missing_docs)]

@@ -1,6 +1,6 @@
 //! What an accepted configuration shows.
 
-use crate::{calls, sizes, Kind, Layout, Refusal};
+use crate::{calls, limits, Kind, Layout, Refusal};
 
 /// What an accepted configuration shows.
 #[derive(Debug, Clone, Copy, PartialEq, Eq, Hash)]
@@ -14,7 +14,7 @@ pub struct Config {
     /// The number of rows.
     pub rows: u32,
     /// The last row of each rate, 0 where there is none. With 0 rates there is one, the number of rows.
-    pub last_rows: [u32; sizes::MOST_RATES],
+    pub last_rows: [u32; limits::MOST_RATES],
     /// Date and time of the first sample.
     pub first_sample: Moment,
     /// Date and time of the trigger.
@@ -68,8 +68,8 @@ impl Config {
     }
 
     /// The configuration that the places of the library's call show.
-    fn shown(p: &[i64; sizes::CONFIG_PLACES]) -> Config {
-        let mut last_rows = [0; sizes::MOST_RATES];
+    fn shown(p: &[i64; limits::CONFIG_PLACES]) -> Config {
+        let mut last_rows = [0; limits::MOST_RATES];
         for (last_row, &place) in last_rows.iter_mut().zip(&p[4..12]) {
             *last_row = place as u32;
         }
@@ -119,7 +119,7 @@ impl Moment {
 /// # Ok::<(), zagalume::Refusal>(())
 /// ```
 pub fn read_config(cfg: &[u8]) -> Result<Config, Refusal> {
-    let mut shown = [0; sizes::CONFIG_PLACES];
+    let mut shown = [0; limits::CONFIG_PLACES];
     calls::config(cfg, &mut shown)?;
     Ok(Config::shown(&shown))
 }

@@ -1,6 +1,6 @@
 //! Data files: kinds, layouts, rows, and the calls on them.
 
-use crate::{calls, refused, sizes, Refusal};
+use crate::{calls, limits, refused, Refusal};
 use std::fmt;
 
 /// The kind of data file.
@@ -55,7 +55,7 @@ impl fmt::Display for Kind {
     }
 }
 
-/// The layout of a data file. [`Config::layout`](crate::Config::layout) takes it from a configuration; one that is out of the sizes is refused with 10 by every call.
+/// The layout of a data file. [`Config::layout`](crate::Config::layout) takes it from a configuration; one outside the limits is refused with 10 by every call.
 #[derive(Debug, Clone, Copy, PartialEq, Eq, Hash)]
 pub struct Layout {
     /// A, the number of analog channels, 0 to 96.
@@ -98,7 +98,7 @@ impl Row {
     }
 
     /// Puts the row in its places, where it has as many samples and statuses as the layout: how many places. Else it is refused with 10, as a row with too few places is.
-    fn put(&self, layout: Layout, places: &mut [i64; sizes::MOST_ROW_PLACES]) -> Result<usize, Refusal> {
+    fn put(&self, layout: Layout, places: &mut [i64; limits::MOST_ROW_PLACES]) -> Result<usize, Refusal> {
         let sized = self.samples.len() == layout.analogs as usize && self.statuses.len() == layout.statuses as usize;
         if !sized || layout.row_places() > places.len() {
             return Err(Refusal { number: refused::LAYOUT, at: 0, field: 0 });
@@ -148,7 +148,7 @@ pub fn check(layout: Layout, data: &[u8]) -> Result<(), Refusal> {
 /// # Ok::<(), zagalume::Refusal>(())
 /// ```
 pub fn row(layout: Layout, data: &[u8], n: u32) -> Result<Row, Refusal> {
-    let mut places = [0; sizes::MOST_ROW_PLACES];
+    let mut places = [0; limits::MOST_ROW_PLACES];
     let count = row_into(layout, data, n, &mut places)?;
     Ok(Row::shown(layout.analogs as usize, &places[..count]))
 }
@@ -173,9 +173,9 @@ pub fn row_into(layout: Layout, data: &[u8], n: u32, shown: &mut [i64]) -> Resul
 /// # Ok::<(), zagalume::Refusal>(())
 /// ```
 pub fn write_row(layout: Layout, n: u32, row: &Row) -> Result<Vec<u8>, Refusal> {
-    let mut places = [0; sizes::MOST_ROW_PLACES];
+    let mut places = [0; limits::MOST_ROW_PLACES];
     let count = row.put(layout, &mut places)?;
-    let mut out = [0; sizes::MOST_ROW_BYTES];
+    let mut out = [0; limits::MOST_ROW_BYTES];
     let length = write_row_into(layout, n, &places[..count], &mut out)?;
     Ok(out[..length].to_vec())
 }

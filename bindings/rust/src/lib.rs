@@ -47,8 +47,8 @@ pub use config::{read_config, Config, Moment, PreTrigger};
 pub use data::{bytes_needed, change, change_into, check, row, row_into, write_row, write_row_into, Kind, Layout, Row};
 pub use refusal::{reason, reason_into, refused, Refusal};
 
-/// The sizes of the house.
-pub mod sizes {
+/// The limits, and the room that anything within them needs.
+pub mod limits {
     /// The most bytes of a configuration.
     pub const MOST_CONFIG_BYTES: usize = 65_536;
     /// The most analog channels.

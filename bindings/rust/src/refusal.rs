@@ -1,6 +1,6 @@
 //! Refusals: their numbers, places and meanings.
 
-use crate::{calls, sizes};
+use crate::{calls, limits};
 use std::error::Error;
 use std::fmt;
 
@@ -34,7 +34,7 @@ impl fmt::Display for Refusal {
         if self.field != 0 {
             write!(f, ", field {}", self.field)?;
         }
-        let mut text = [0; sizes::MOST_REASON_BYTES];
+        let mut text = [0; limits::MOST_REASON_BYTES];
         match reason_into(self.number, &mut text) {
             Ok(length) => write!(f, ": {}", String::from_utf8_lossy(&text[..length])),
             Err(_) => Ok(()),
@@ -52,7 +52,7 @@ impl fmt::Display for Refusal {
 /// # Ok::<(), zagalume::Refusal>(())
 /// ```
 pub fn reason(number: u32) -> Result<String, Refusal> {
-    let mut text = [0; sizes::MOST_REASON_BYTES];
+    let mut text = [0; limits::MOST_REASON_BYTES];
     let length = reason_into(number, &mut text)?;
     Ok(String::from_utf8_lossy(&text[..length]).into_owned())
 }
@@ -84,7 +84,7 @@ pub mod refused {
     pub const YEAR: u32 = 8;
     /// Bytes after the last line; at the line after it.
     pub const BYTES_AFTER: u32 = 9;
-    /// The layout is out of the sizes, a row to write has the wrong number of samples or statuses, or a refusal asked for has no meaning.
+    /// The layout is outside the limits, a row to write has the wrong number of samples or statuses, or a refusal asked for has no meaning.
     pub const LAYOUT: u32 = 10;
     /// Wrong length of the data file; for ASCII at the row before or inside which it ends, or at the row after the last.
     pub const FILE_LENGTH: u32 = 11;

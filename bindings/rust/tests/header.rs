@@ -1,7 +1,7 @@
 //! The names and numbers of include/zagalume.h are those of this crate, and its calls those of `zagalume-raw`.
 
 use std::collections::BTreeMap;
-use zagalume::{refused, sizes, Kind};
+use zagalume::{limits, refused, Kind};
 
 const HEADER: &str = include_str!("../../../include/zagalume.h");
 
@@ -16,6 +16,11 @@ fn named() -> BTreeMap<&'static str, usize> {
         names.insert(name, digits.parse().unwrap());
     }
     names
+}
+
+/// Those whose name begins with a word, after that word.
+fn named_after(word: &str) -> BTreeMap<&'static str, usize> {
+    named().into_iter().filter_map(|(name, number)| Some((name.strip_prefix(word)?, number))).collect()
 }
 
 #[test]
@@ -46,30 +51,31 @@ fn refusals() {
         ("MISFIT", refused::MISFIT),
         ("NO_ROOM", refused::NO_ROOM),
     ];
-    let ours: BTreeMap<String, usize> =
-        numbers.map(|(name, number)| (format!("REFUSED_{name}"), number as usize)).into();
-    let theirs: BTreeMap<String, usize> = named()
-        .into_iter()
-        .filter(|(name, _)| name.starts_with("REFUSED_"))
-        .map(|(name, n)| (name.to_string(), n))
-        .collect();
-    assert_eq!(ours, theirs);
+    let ours = numbers.map(|(name, number)| (name, number as usize));
+    assert_eq!(BTreeMap::from(ours), named_after("REFUSED_"));
 }
 
 #[test]
-fn sizes_of_the_house() {
-    for (name, size) in [
-        ("MOST_CONFIG_BYTES", sizes::MOST_CONFIG_BYTES),
-        ("MOST_ANALOGS", sizes::MOST_ANALOGS),
-        ("MOST_STATUSES", sizes::MOST_STATUSES),
-        ("MOST_RATES", sizes::MOST_RATES),
-        ("MOST_ROWS", sizes::MOST_ROWS),
-        ("MOST_ROW_PLACES", sizes::MOST_ROW_PLACES),
-        ("MOST_ROW_BYTES", sizes::MOST_ROW_BYTES),
-        ("MOST_REASON_BYTES", sizes::MOST_REASON_BYTES),
-    ] {
-        assert_eq!(named()[name], size, "{name}");
-    }
+fn limits() {
+    let numbers = [
+        ("CONFIG_BYTES", limits::MOST_CONFIG_BYTES),
+        ("ANALOGS", limits::MOST_ANALOGS),
+        ("STATUSES", limits::MOST_STATUSES),
+        ("RATES", limits::MOST_RATES),
+        ("ROWS", limits::MOST_ROWS),
+        ("ROW_PLACES", limits::MOST_ROW_PLACES),
+        ("ROW_BYTES", limits::MOST_ROW_BYTES),
+        ("REASON_BYTES", limits::MOST_REASON_BYTES),
+    ];
+    assert_eq!(BTreeMap::from(numbers), named_after("MOST_"));
+}
+
+#[test]
+fn version() {
+    let version = include_str!("../../../VERSION").trim();
+    assert_eq!(env!("CARGO_PKG_VERSION"), version);
+    let raw = include_str!("../../raw/Cargo.toml");
+    assert!(raw.lines().any(|line| line == format!("version = \"{version}\"")));
 }
 
 /// A parameter as Rust declares it: `const uint8_t *cfg` is `cfg: *const u8`.

@@ -50,7 +50,7 @@ fn a_configuration_over_its_size() {
 }
 
 #[test]
-fn layouts_out_of_the_sizes() {
+fn layouts_outside_the_limits() {
     for (a, d, rows) in
         [(97, 1, 2), (1, 257, 2), (0, 0, 2), (1, 1, 0), (1, 1, 1_000_001), (u32::MAX, u32::MAX, u32::MAX)]
     {

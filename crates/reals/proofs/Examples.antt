@@ -9,7 +9,8 @@ use Rattle.numerals.specs.Wholes.{signLength, hasMinus}
 use Rattle.reals.specs.declared.Real.the-variants as real
 use Rattle.reals.specs.declared.Limit.{Limit}
 use Rattle.reals.specs.declared.Limit.the-variants.{Is, Form, Range}
-use Rattle.reals.specs.Forms.{leadingDigits, fractionLength, mantissaLength, isE, shortNumber, raisedBy, signedExponent, exponentOf, realForm, isNought, isZero, signOf, realSign, signedReal, readReal}
+use Rattle.reals.specs.Forms.{leadingDigits, fractionLength, mantissaLength, isE, shortNumber, raisedBy, signedExponent, exponentOf, realForm}
+use Rattle.reals.specs.Forms.{isNought, isZero, signOf, realSign, signedReal, readReal}
 use Rattle.reals.specs.Exact.{digitsOf, decimalPlaces, exactOf, scaled, sizeLe, withinBound, inBound, limitOf, signedLimit, readLimit, maxBelow}
 
 -- max is below min, where both are limits

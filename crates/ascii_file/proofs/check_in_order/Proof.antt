@@ -19,8 +19,11 @@ enum-known-len : tie.Need-enum-known-len
 enum-known-len c = search needs
     -- what the scan says of the line that it found
 
-line : (c : tie.After-known-told) → (c .before .len .given .0 .1 .0 ≡ c .before .len .given .0 .0 + 2) × Lies 1880 (c .before .before .before .before .before .args .rest .now) (c .before .len .given .0 .0) (c .before .len .given .0 .1 .0)
-line c = line-found 1880 (c .before .len .given .0 .0) (c .before .len .given .0 .1 .0) (c .before .before .before .before .before .args .rest .now) (sym (c .before .before .before .scan-line .ensures) ∙ c .before .len .given .1)
+line : (c : tie.After-known-told)
+    → let len = c .before .len .given .0 in (len .1 .0 ≡ len .0 + 2) × Lies 1880 (c .before .before .before .before .before .args .rest .now) (len .0) (len .1 .0)
+line c =
+    let len = c .before .len .given in
+    line-found 1880 (len .0 .0) (len .0 .1 .0) (c .before .before .before .before .before .args .rest .now) (sym (c .before .before .before .scan-line .ensures) ∙ len .1)
 
 slice-aggregate-check-line : tie.Need-slice-aggregate-check-line
 slice-aggregate-check-line c = sym (length-take-le _ _ (omega (arith, line (c .before) .0, line (c .before) .1 .within)))
@@ -49,14 +52,22 @@ refused-requires-2 c κs = search needs
 returns : tie.Need-returns
 unfolding takeRow
 returns c =
-    let told = yes-told (checkLine (c .before .before .before .before .before .before .before .before .before .args .layout) (c .before .before .before .before .before .before .before .before .before .args .n) (take (c .before .before .before .before .before .len .given .0 .0) (c .before .before .before .before .before .before .before .before .before .args .rest .now))) (sym (c .before .before .check-line .ensures) ∙ c .enum-told .given .1) in
-    rw (← c .before .before .before .before .before .before .before .scan-line .ensures, c .before .before .before .before .before .len .given .1, told, line (c .before .before .before .before) .0)
+    let known = c .before .before .before .before in
+    let len = known .before .len .given in
+    let scan = known .before .before .before in
+    let args = scan .before .before .args in
+    let told = yes-told (checkLine (args .layout) (args .n) (take (len .0 .0) (args .rest .now))) (sym (c .before .before .check-line .ensures) ∙ c .enum-told .given .1) in
+    rw (← scan .scan-line .ensures, len .1, told, line known .0)
 
 returns-2 : tie.Need-returns-2
 unfolding takeRow
 returns-2 c =
-    let told = no-told (checkLine (c .before .before .before .before .before .before .before .before .before .before .args .layout) (c .before .before .before .before .before .before .before .before .before .before .args .n) (take (c .before .before .before .before .before .before .len .given .0 .0) (c .before .before .before .before .before .before .before .before .before .before .args .rest .now))) (c .before .refusal .given .0 .0) (sym (c .before .before .before .check-line .ensures) ∙ c .before .refusal .given .1) in
-    rw (← c .before .before .before .before .before .before .before .before .scan-line .ensures, c .before .before .before .before .before .before .len .given .1, told)
+    let len = c .before .before .before .before .before .before .len .given in
+    let scan = c .before .before .before .before .before .before .before .before in
+    let args = scan .before .before .args in
+    let refusal = c .before .refusal .given in
+    let told = no-told (checkLine (args .layout) (args .n) (take (len .0 .0) (args .rest .now))) (refusal .0 .0) (sym (c .before .before .before .check-line .ensures) ∙ refusal .1) in
+    rw (← scan .scan-line .ensures, len .1, told)
 
 returns-3 : tie.Need-returns-3
 unfolding takeRow

@@ -32,18 +32,29 @@ enum-known-refusal c = search needs
 returns : tie.Need-returns Inv-loop μ-loop
 unfolding checkText
 returns c =
-    let told = not-told (takeRow (c .before .before .before .before .before .before .before .args .layout) (c .before .before .before .before .before .loop .n) (c .before .before .before .before .before .loop .t .now)) (c .before .refusal .given .0 .0) (sym (c .before .before .before .take-row .ensures) ∙ c .before .refusal .given .1) in
-    rw (c .before .before .before .before .before .loop .inv .3, rows-turn _ (c .before .before .before .before .before .loop .t .now) (c .before .before .before .before .before .loop .n) (c .before .before .before .before .before .before .before .args .layout .rows + 1) (omega (arith, c .before .before .before .before .loop-test .taken)), told)
+    let row = c .before .before .before in
+    let loop = row .before .before .loop in
+    let layout = row .before .before .before .before .args .layout in
+    let refusal = c .before .refusal .given in
+    let told = not-told (takeRow layout (loop .n) (loop .t .now)) (refusal .0 .0) (sym (row .take-row .ensures) ∙ refusal .1) in
+    rw (loop .inv .3, rows-turn _ (loop .t .now) (loop .n) (layout .rows + 1) (omega (arith, row .before .loop-test .taken)), told)
 
 enum-known-taken : tie.Need-enum-known-taken Inv-loop μ-loop
 enum-known-taken c = search needs
     -- what the row takes
 
-told : (c : tie.After-known-told2 Inv-loop μ-loop) → takeRow (c .before .before .before .before .before .before .before .args .layout) (c .before .before .before .before .before .loop .n) (c .before .before .before .before .before .loop .t .now) ≡ says (c .before .taken .given .0 .0)
-told c = takes-told (takeRow (c .before .before .before .before .before .before .before .args .layout) (c .before .before .before .before .before .loop .n) (c .before .before .before .before .before .loop .t .now)) (c .before .taken .given .0 .0) (sym (c .before .before .before .take-row .ensures) ∙ c .before .taken .given .1)
+told : (c : tie.After-known-told2 Inv-loop μ-loop)
+    → let turn = c .before .before .before .before .before in takeRow (turn .before .before .args .layout) (turn .loop .n) (turn .loop .t .now) ≡ says (c .before .taken .given .0 .0)
+told c =
+    let row = c .before .before .before in
+    let loop = row .before .before .loop in
+    let taken = c .before .taken .given in
+    takes-told (takeRow (row .before .before .before .before .args .layout) (loop .n) (loop .t .now)) (taken .0 .0) (sym (row .take-row .ensures) ∙ taken .1)
 
 sub-t : tie.Need-sub-t Inv-loop μ-loop
-sub-t c = row-takes-told (c .before .before .before .before .before .before .before .args .layout) (c .before .before .before .before .before .loop .n) (c .before .before .before .before .before .loop .t .now) _ (told c) .within
+sub-t c =
+    let turn = c .before .before .before .before .before in
+    row-takes-told (turn .before .before .args .layout) (turn .loop .n) (turn .loop .t .now) _ (told c) .within
 
 part-t-start : tie.Need-part-t-start Inv-loop μ-loop
 part-t-start c = sub-t c
@@ -58,12 +69,15 @@ loop-less : tie.Need-loop-less Inv-loop μ-loop
 loop-less c = omega (arith, c .before .before .before .before .before .loop-test .taken)
 
 loop-again : tie.Need-loop-again Inv-loop μ-loop
-loop-again c = (
-  rw (rest, length-drop) (omega arith),
-  omega arith,
-  omega (arith, c .before .before .before .before .before .loop-test .taken),
-  c .before .before .before .before .before .before .loop .inv .3 ∙ rw (rows-turn _ (c .before .before .before .before .before .before .loop .t .now) (c .before .before .before .before .before .before .loop .n) (c .before .before .before .before .before .before .before .before .args .layout .rows + 1) (omega (arith, c .before .before .before .before .before .loop-test .taken)), told (c .before), rest),
-)
+loop-again c =
+    let test = c .before .before .before .before .before in
+    let loop = test .before .loop in
+    let rows = test .before .before .before .args .layout .rows in (
+      rw (rest, length-drop) (omega arith),
+      omega arith,
+      omega (arith, test .loop-test .taken),
+      loop .inv .3 ∙ rw (rows-turn _ (loop .t .now) (loop .n) (rows + 1) (omega (arith, test .loop-test .taken)), told (c .before), rest),
+    )
 
 check-end-requires : tie.Need-check-end-requires Inv-loop μ-loop
 check-end-requires c κs = search needs

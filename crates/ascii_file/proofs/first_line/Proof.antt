@@ -16,7 +16,8 @@ enum-known-len c = search needs
 
 slice-aggregate-result : tie.Need-slice-aggregate-result
 slice-aggregate-result c =
-    let f = line-found 1880 (c .before .before .len .given .0 .0) (c .before .before .len .given .0 .1 .0) (c .before .before .before .before .before .before .args .rest .now) (sym (c .before .before .before .before .scan-line .ensures) ∙ c .before .before .len .given .1) in
+    let len = c .before .before .len .given in
+    let f = line-found 1880 (len .0 .0) (len .0 .1 .0) (c .before .before .before .before .before .before .args .rest .now) (sym (c .before .before .before .before .scan-line .ensures) ∙ len .1) in
     sym (length-take-le _ _ (omega (arith, f .0, f .1 .within)))
 
 enum-told : tie.Need-enum-told

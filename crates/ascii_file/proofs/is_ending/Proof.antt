@@ -28,13 +28,17 @@ shared-slice-read-if5 : tie.Need-shared-slice-read-if5
 shared-slice-read-if5 c = search needs
 
 returns-5 : tie.Need-returns-5
-returns-5 c = rw (ending-three (c .before .before .before .before .before .before .before .args .s .now) (c .before .before .before .before .if3 .left), eq-eqb _ 26 (c .before .before .if4 .left), ne-eqb _ 13 (c .if5 .taken))
+returns-5 c =
+    let three = c .before .before .before .before in
+    rw (ending-three (three .before .before .before .args .s .now) (three .if3 .left), eq-eqb _ 26 (c .before .before .if4 .left), ne-eqb _ 13 (c .if5 .taken))
 
 shared-slice-read-result-2 : tie.Need-shared-slice-read-result-2
 shared-slice-read-result-2 c = search needs
 
 returns-6 : tie.Need-returns-6
-returns-6 c = rw (ending-three (c .before .before .before .before .before .before .before .before .args .s .now) (c .before .before .before .before .before .if3 .left), eq-eqb _ 26 (c .before .before .before .if4 .left), eq-eqb _ 13 (c .before .if5 .left))
+returns-6 c =
+    let three = c .before .before .before .before .before in
+    rw (ending-three (three .before .before .before .args .s .now) (three .if3 .left), eq-eqb _ 26 (c .before .before .before .if4 .left), eq-eqb _ 13 (c .before .if5 .left))
 
 pub is-ending-spec : {M : Type 1} → statement M
 is-ending-spec =

@@ -15,7 +15,9 @@ add-result : tie.Need-add-result
 add-result c = omega (arith, decimal-short (c .before .before .args .time) (omega arith), c .decimal-length2 .ensures)
 
 add-result-2 : tie.Need-add-result-2
-add-result-2 c = omega (arith, decimal-short (c .before .before .args .n) (omega arith), decimal-short (c .before .before .args .time) (omega arith), c .before .decimal-length .ensures, c .decimal-length2 .ensures)
+add-result-2 c =
+    let args = c .before .before .args in
+    omega (arith, decimal-short (args .n) (omega arith), decimal-short (args .time) (omega arith), c .before .decimal-length .ensures, c .decimal-length2 .ensures)
 
 returns : tie.Need-returns
 returns c = search needs

@@ -31,8 +31,10 @@ add-result-2 c = search needs
 
 short : (c : tie.After-samples-length) → c .before .head-length .result + (c .samples-length .result + (2 * c .before .before .before .before .args .layout .statuses + 2)) ≤ 2048
 short c =
-    let s = c .before .before .before .before .pre .0 in
-    omega (arith, c .samples-length .ensures .1, c .before .head-length .ensures, decimal-short (c .before .before .before .before .args .n) (omega arith), decimal-short (c .before .before .before .before .args .time) (omega arith))
+    let start = c .before .before .before .before in
+    let s = start .pre .0 in
+    let args = start .args in
+    omega (arith, c .samples-length .ensures .1, c .before .head-length .ensures, decimal-short (args .n) (omega arith), decimal-short (args .time) (omega arith))
 
 add-result-3 : tie.Need-add-result-3
 add-result-3 c = omega (arith, short c)

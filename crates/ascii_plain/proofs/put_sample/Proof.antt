@@ -39,10 +39,14 @@ filled : (c : tie.After-slice-known2) → c .before .before .put-plain .last .0 
 filled c = c .before .before .put-plain .ensures ∙ ap plain (back (c .before .before .before))
 
 same-length : tie.Need-same-length
-same-length c = rw (put-first (c .before .before .before .before .before .before .args .d .now) (c .before .before .put-plain .last .0) 44 (omega (arith, c .before .before .before .before .before .before .pre)), filled c) (omega (arith, c .before .before .before .before .before .before .pre))
+same-length c =
+    let start = c .before .before .before .before .before .before in
+    rw (put-first (start .args .d .now) (c .before .before .put-plain .last .0) 44 (omega (arith, start .pre)), filled c) (omega (arith, start .pre))
 
 returns : tie.Need-returns
-returns c = put-first (c .before .before .before .before .before .before .args .d .now) (c .before .before .put-plain .last .0) 44 (omega (arith, c .before .before .before .before .before .before .pre)) ∙ rw (filled c)
+returns c =
+    let start = c .before .before .before .before .before .before in
+    put-first (start .args .d .now) (c .before .before .put-plain .last .0) 44 (omega (arith, start .pre)) ∙ rw (filled c)
 
 pub put-sample-spec : {M : Type 1} → statement M
 put-sample-spec =

@@ -46,7 +46,10 @@ long c = c .sample-length .ensures ∙ rw (back (c .before)) (omega arith)
 
 -- it lies within the slice
 room : (c : tie.After-sample-length Inv-loop μ-loop) → c .before .before .before .loop .from + c .sample-length .result ≤ length (c .before .before .before .loop .d)
-room c = omega (arith, long c, samples-within (c .before .before .before .before .before .args .zs .now) (c .before .before .before .loop .i) (c .before .before .before .before .before .args .a) (c .before .before .loop-test .taken))
+room c =
+    let test = c .before .before in
+    let args = test .before .before .before .args in
+    omega (arith, long c, samples-within (args .zs .now) (test .before .loop .i) (args .a) (test .loop-test .taken))
 
 add-to : tie.Need-add-to Inv-loop μ-loop
 add-to c = omega (arith, room c)

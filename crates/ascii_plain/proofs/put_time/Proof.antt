@@ -24,10 +24,16 @@ put-decimal-requires : tie.Need-put-decimal-requires
 put-decimal-requires c κs = rw (rest, length-drop, length-set) (omega (arith, c .before .before .pre))
 
 same-length : tie.Need-same-length
-same-length c = rw (put-first (c .before .before .before .before .before .args .d .now) (c .before .before .put-decimal .last .0) 44 (omega (arith, c .before .before .before .before .before .pre)), c .before .before .put-decimal .ensures) (omega (arith, c .before .before .before .before .before .pre))
+same-length c =
+    let start = c .before .before .before .before .before in
+    let put = c .before .before .put-decimal in
+    rw (put-first (start .args .d .now) (put .last .0) 44 (omega (arith, start .pre)), put .ensures) (omega (arith, start .pre))
 
 returns : tie.Need-returns
-returns c = put-first (c .before .before .before .before .before .args .d .now) (c .before .before .put-decimal .last .0) 44 (omega (arith, c .before .before .before .before .before .pre)) ∙ rw (c .before .before .put-decimal .ensures)
+returns c =
+    let start = c .before .before .before .before .before in
+    let put = c .before .before .put-decimal in
+    put-first (start .args .d .now) (put .last .0) 44 (omega (arith, start .pre)) ∙ rw (put .ensures)
 
 pub put-time-spec : {M : Type 1} → statement M
 put-time-spec =

@@ -34,9 +34,11 @@ sample-length-requires c κs = search needs
 
 -- what sample i takes, and the most that it can
 long : (c : tie.After-sample-length Inv-loop μ-loop)
-    → let z = getD (c .before .before .before .before .args .zs .now) (c .before .before .before .loop .i) (pos 0) in (c .sample-length .result ≡ 1 + length (plain z)) × (c .sample-length .result ≤ 12)
+    → let turn = c .before .before .before in let z = getD (turn .before .args .zs .now) (turn .loop .i) (pos 0) in
+    (c .sample-length .result ≡ 1 + length (plain z)) × (c .sample-length .result ≤ 12)
 long c =
-    let z = getD (c .before .before .before .before .args .zs .now) (c .before .before .before .loop .i) (pos 0) in
+    let turn = c .before .before .before in
+    let z = getD (turn .before .args .zs .now) (turn .loop .i) (pos 0) in
     let e = c .sample-length .ensures ∙ ap (λ (y : ℤ). 1 + length (plain y)) (toZ-ofZ w32 z (record { sfits = c .before .sample-length-arg .given })) in
     (e, omega (arith, plain-short z (c .before .sample-length-arg .given)))
 

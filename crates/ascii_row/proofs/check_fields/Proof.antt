@@ -44,11 +44,16 @@ refused-requires : tie.Need-refused-requires Inv-loop μ-loop
 refused-requires c κs = search needs
     -- what the check of field k found
 
-fine : (c : tie.After-field-fine Inv-loop μ-loop) → fieldFine (c .before .before .before .before .before .before .args .a) (c .before .before .before .before .loop .k) (firstField (c .before .before .before .before .loop .t .now)) ≡ c .field-fine .result
+fine : (c : tie.After-field-fine Inv-loop μ-loop)
+    → let turn = c .before .before .before .before in fieldFine (turn .before .before .args .a) (turn .loop .k) (firstField (turn .loop .t .now)) ≡ c .field-fine .result
 fine c = sym (c .field-fine .ensures ∙ rw (c .before .before .field-length .ensures))
 
 returns : tie.Need-returns Inv-loop μ-loop
-returns c = rw (c .refused .ensures, c .before .before .before .before .before .before .loop .inv .3, fields-turn _ _ (c .before .before .before .before .before .before .loop .t .now) (c .before .before .before .before .before .before .loop .k) _ (c .before .before .before .before .before .loop-test .taken), fine (c .before .before), not-true (c .before .before .field-fine .result) (c .before .if1 .taken))
+returns c =
+    let field = c .before .before in
+    let test = field .before .before .before in
+    let loop = test .before .loop in
+    rw (c .refused .ensures, loop .inv .3, fields-turn _ _ (loop .t .now) (loop .k) _ (test .loop-test .taken), fine field, not-true (field .field-fine .result) (c .before .if1 .taken))
 
 with-comma-requires : tie.Need-with-comma-requires Inv-loop μ-loop
 with-comma-requires c κs = search needs
@@ -70,13 +75,16 @@ loop-less c = omega arith
 
 loop-again : tie.Need-loop-again Inv-loop μ-loop
 loop-again c =
-    let t = c .before .before .before .before .before .before .before .loop .t .now in
-    let m = c .before .before .before .before .before .field-length .ensures in
+    let field = c .before .before .before in
+    let test = field .before .before .before in
+    let loop = test .before .loop in
+    let t = loop .t .now in
+    let m = field .before .before .field-length .ensures in
     let k = c .before .with-comma .ensures in (
       omega (arith, walk-shorter t _ _ m k),
       omega arith,
       omega arith,
-      c .before .before .before .before .before .before .before .loop .inv .3 ∙ rw (fields-turn _ _ t (c .before .before .before .before .before .before .before .loop .k) _ (c .before .before .before .before .before .before .loop-test .taken), fine (c .before .before .before), not-false (c .before .before .before .field-fine .result) (c .before .before .if1 .left), walk-on t _ _ m k),
+      loop .inv .3 ∙ rw (fields-turn _ _ t (loop .k) _ (test .loop-test .taken), fine field, not-false (field .field-fine .result) (c .before .before .if1 .left), walk-on t _ _ m k),
     )
 
 returns-2 : tie.Need-returns-2 Inv-loop μ-loop

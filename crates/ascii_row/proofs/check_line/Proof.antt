@@ -53,9 +53,10 @@ enum-known-refusal c = search needs
 returns-2 : tie.Need-returns-2
 unfolding checkLine
 returns-2 c =
-    let s = c .before .before .before .before .before .before .before .before .before .before in
-    let told = yes-told (checkNumber (s .args .n) (s .args .line .now)) (sym (c .before .before .before .before .check-number .ensures) ∙ c .before .before .enum-told .given .1) in
-    rw (c .check-fields .ensures, c .before .after-fields .ensures, ← c .before .before .before .before .before .before .field-count .ensures, eq-eqb _ _ (c .before .before .before .before .before .if1 .left), told)
+    let number = c .before .before .before .before in
+    let args = number .before .before .before .before .before .before .args in
+    let told = yes-told (checkNumber (args .n) (args .line .now)) (sym (number .check-number .ensures) ∙ c .before .before .enum-told .given .1) in
+    rw (c .check-fields .ensures, c .before .after-fields .ensures, ← number .before .before .field-count .ensures, eq-eqb _ _ (number .before .if1 .left), told)
 
 returns-3 : tie.Need-returns-3
 unfolding checkLine

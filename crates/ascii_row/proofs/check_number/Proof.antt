@@ -19,7 +19,9 @@ refused-requires c κs = search needs
 
 returns : tie.Need-returns
 unfolding checkNumber
-returns c = rw (c .refused .ensures, ← c .before .before .before .before .before .before .field-at .ensures, ← c .before .before .before .before .before .read-count .ensures, c .before .before .before .v .given .1, ne-eqb _ _ (c .before .if1 .taken))
+returns c =
+    let number = c .before .before .before in
+    rw (c .refused .ensures, ← number .before .before .before .field-at .ensures, ← number .before .before .read-count .ensures, number .v .given .1, ne-eqb _ _ (c .before .if1 .taken))
 
 enum-told : tie.Need-enum-told
 enum-told c = search needs

@@ -35,7 +35,10 @@ enum-told c = search needs
 
 returns-2 : tie.Need-returns-2
 unfolding readSample
-returns-2 c = rw (← c .before .before .before .before .before .read-whole .ensures, c .before .before .before .z .given .1, tested (c .before), not-false (c .before .holds .result) (c .if1 .left), kept (c .before))
+returns-2 c =
+    let test = c .before in
+    let number = test .before .before in
+    rw (← number .before .before .read-whole .ensures, number .z .given .1, tested test, not-false (test .holds .result) (c .if1 .left), kept test)
 
 returns-3 : tie.Need-returns-3
 unfolding readSample

@@ -17,7 +17,10 @@ read-samples-requires : tie.Need-read-samples-requires
 read-samples-requires c κs = search needs
 
 returns : tie.Need-returns
-returns c = padded-fill (c .before .before .before .before .args .a) 96 (pos 0) (c .before .before .before .before .pre) (fieldSample (c .before .before .before .before .args .fields .now)) (c .before .read-samples .last .1 .0) (c .before .read-samples .ensures)
+returns c =
+    let start = c .before .before .before .before in
+    let read = c .before .read-samples in
+    padded-fill (start .args .a) 96 (pos 0) (start .pre) (fieldSample (start .args .fields .now)) (read .last .1 .0) (read .ensures)
 
 pub samples-of-spec : {M : Type 1} → statement M
 samples-of-spec =

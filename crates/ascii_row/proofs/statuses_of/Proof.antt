@@ -17,7 +17,10 @@ read-statuses-requires : tie.Need-read-statuses-requires
 read-statuses-requires c κs = search needs
 
 returns : tie.Need-returns
-returns c = padded-fill (c .before .before .before .before .args .d) 256 false (c .before .before .before .before .pre) (fieldStatus (c .before .before .before .before .args .fields .now)) (c .before .read-statuses .last .1 .0) (c .before .read-statuses .ensures)
+returns c =
+    let start = c .before .before .before .before in
+    let read = c .before .read-statuses in
+    padded-fill (start .args .d) 256 false (start .pre) (fieldStatus (start .args .fields .now)) (read .last .1 .0) (read .ensures)
 
 pub statuses-of-spec : {M : Type 1} → statement M
 statuses-of-spec =

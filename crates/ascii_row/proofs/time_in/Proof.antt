@@ -13,7 +13,9 @@ enum-known-v : tie.Need-enum-known-v
 enum-known-v c = search needs
 
 cast-result : tie.Need-cast-result
-cast-result c = record { fits = timestamp-told (c .before .before .before .before .before .args .field .now) (c .before .v .given .0 .0) (sym (c .before .before .before .read-timestamp .ensures) ∙ c .before .v .given .1) .1 }
+cast-result c =
+    let v = c .before .v .given in
+    record { fits = timestamp-told (c .before .before .before .before .before .args .field .now) (v .0 .0) (sym (c .before .before .before .read-timestamp .ensures) ∙ v .1) .1 }
 
 enum-told : tie.Need-enum-told
 enum-told c = search needs

@@ -38,7 +38,9 @@ loop-less : tie.Need-loop-less Inv-loop μ-loop
 loop-less c = omega arith
 
 loop-again : tie.Need-loop-again Inv-loop μ-loop
-loop-again c = (omega arith, λ a. passed-four a (c .before .before .before .before .before .args .s .now) _ _ (c .before .before .before .loop .inv .1 a) (c .before .four-there .ensures (not-false _ (c .if1 .left))))
+loop-again c =
+    let turn = c .before .before .before in
+    (omega arith, λ a. passed-four a (turn .before .before .args .s .now) _ _ (turn .loop .inv .1 a) (c .before .four-there .ensures (not-false _ (c .if1 .left))))
 
 returns-2 : tie.Need-returns-2 Inv-loop μ-loop
 returns-2 c = c .before .loop .inv

@@ -40,11 +40,19 @@ line-end-requires c κs = c .before .statuses-end .ensures (c .if4 .left) .0
 
 returns-5 : tie.Need-returns-5
 returns-5 c = λ h.
-    let l = c .before .before .before .before .before .before .before .before .before .before .before .before .args .layout in
-    let s = c .before .before .before .before .before .before .before .before .before .before .before .before .args .s .now in
+    let statuses = c .before .before in
+    let samples = statuses .before .before in
+    let time = samples .before .before in
+    let number = time .before .before in
+    let args = number .before .before .before .before .args in
+    let l = args .layout in
+    let s = args .s .now in
     let e = c .line-end .ensures h in
     rw (e .takes)
-    (row-walked l _ s _ _ _ _ (c .before .before .before .before .before .before .before .before .number-end .ensures (c .before .before .before .before .before .before .before .if1 .left)) (next-time (l .analogs) s _ _ (c .before .before .before .before .before .before .time-end .ensures (c .before .before .before .before .before .if2 .left))) (c .before .before .before .before .samples-end .ensures (c .before .before .before .if3 .left) .1) (c .before .before .statuses-end .ensures (c .before .if4 .left) .1 (l .analogs)) (e .within) (e .short) (e .cr) (e .lf))
+    (row-walked l _ s _ _ _ _ (number .number-end .ensures (time .before .if1 .left))
+    (next-time (l .analogs) s _ _ (time .time-end .ensures (samples .before .if2 .left)))
+    (samples .samples-end .ensures (statuses .before .if3 .left) .1)
+    (statuses .statuses-end .ensures (c .before .if4 .left) .1 (l .analogs)) (e .within) (e .short) (e .cr) (e .lf))
 
 pub row-end-spec : {M : Type 1} → statement M
 row-end-spec =

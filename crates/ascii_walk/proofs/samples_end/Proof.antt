@@ -32,7 +32,9 @@ loop-less c = omega arith
 loop-again : tie.Need-loop-again Inv-loop μ-loop
 loop-again c =
     let t = c .before .sample-end .ensures (c .if1 .left) in
-    (omega arith, t .within, passed-on (c .before .before .before .before .before .args .a) (c .before .before .before .before .before .args .s .now) 2 _ _ _ _ (c .before .before .before .loop .inv .2) (next-sample (c .before .before .before .before .before .args .a) (c .before .before .before .before .before .args .s .now) _ _ _ (c .before .before .loop-test .taken) t))
+    let test = c .before .before in
+    let args = test .before .before .before .args in
+    (omega arith, t .within, passed-on (args .a) (args .s .now) 2 _ _ _ _ (test .before .loop .inv .2) (next-sample (args .a) (args .s .now) _ _ _ (test .loop-test .taken) t))
 
 returns-2 : tie.Need-returns-2 Inv-loop μ-loop
 returns-2 c = λ h. let q : c .before .loop .k ≡ c .before .before .before .args .a = omega arith in (c .before .loop .inv .1, rw q at (c .before .loop .inv .2))

@@ -23,7 +23,8 @@ is-pair-requires c κs = search needs
 returns : tie.Need-returns
 returns c = λ e.
     let t = and-split _ _ (sym (c .is-pair .ensures) ∙ e) in
-    record { comma = eqb-true _ 44 (t .0); past = omega arith; within = c .before .before .before .before .pre; fine = status-fine (c .before .before .before .before .args .s .now) _ (c .before .before .before .before .pre) ∙ t .1 }
+    let start = c .before .before .before .before in
+    record { comma = eqb-true _ 44 (t .0); past = omega arith; within = start .pre; fine = status-fine (start .args .s .now) _ (start .pre) ∙ t .1 }
 
 pub status-there-spec : {M : Type 1} → statement M
 status-there-spec =

@@ -48,7 +48,9 @@ loop-less : tie.Need-loop-less Inv-loop μ-loop
 loop-less c = omega arith
 
 loop-again : tie.Need-loop-again Inv-loop μ-loop
-loop-again c = (omega arith, λ a. passed-status a (c .before .before .before .before .before .before .before .args .s .now) _ _ (c .before .before .before .loop .inv .1 a) (c .before .status-there .ensures (not-false _ (c .if2 .left))))
+loop-again c =
+    let turn = c .before .before .before in
+    (omega arith, λ a. passed-status a (turn .before .before .before .before .args .s .now) _ _ (turn .loop .inv .1 a) (c .before .status-there .ensures (not-false _ (c .if2 .left))))
 
 mul-result : tie.Need-mul-result Inv-loop μ-loop
 mul-result c = omega arith

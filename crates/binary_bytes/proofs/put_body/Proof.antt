@@ -43,13 +43,14 @@ part-put-words-end c = search needs
 
 put-words-requires : tie.Need-put-words-requires
 put-words-requires c κs =
-    let s = c .before .before .before .before .before .before .before .before in
+    let wide = c .before .before .before .before .before in
+    let s = wide .before .before .before in
     let f = c .before .before .before .put-samples in
-    let r = room (c .before .before .before .before .before) in
-    let k = f .kept .1 .1 .1 .0 ∙ front (c .before .before .before .before .before) in (
+    let r = room wide in
+    let k = f .kept .1 .1 .1 .0 ∙ front wide in (
       s .pre .1 .0,
       s .pre .1 .1,
-      half-length (s .args .d .now) (f .last .1 .1 .1 .0) (s .args .a * c .before .before .before .before .before .width .result) (length (s .args .d .now)) k (omega arith) (omega arith) ∙ omega arith,
+      half-length (s .args .d .now) (f .last .1 .1 .1 .0) (s .args .a * wide .width .result) (length (s .args .d .now)) k (omega arith) (omega arith) ∙ omega arith,
     )
 
 same-length : tie.Need-same-length

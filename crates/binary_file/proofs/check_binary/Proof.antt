@@ -30,7 +30,10 @@ returns c = rw (c .check-rows .ensures, long (c .before))
 
 returns-2 : tie.Need-returns-2
 unfolding checkBinary
-returns-2 c = rw (no-told (checkLength (c .before .before .before .before .before .args .layout) (c .before .before .before .before .before .args .«data» .now)) (c .before .refusal .given .0 .0) (sym (c .before .before .before .check-length .ensures) ∙ c .before .refusal .given .1))
+returns-2 c =
+    let args = c .before .before .before .before .before .args in
+    let refusal = c .before .refusal .given in
+    rw (no-told (checkLength (args .layout) (args .«data» .now)) (refusal .0 .0) (sym (c .before .before .before .check-length .ensures) ∙ refusal .1))
 
 pub check-binary-spec : {M : Type 1} → statement M
 check-binary-spec =

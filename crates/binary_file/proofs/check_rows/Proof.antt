@@ -31,7 +31,8 @@ cast-from : tie.Need-cast-from Inv-loop μ-loop
 cast-from c = search needs
 
 -- row i lies within the file
-room : (c : tie.In-loop Inv-loop μ-loop) → c .before .loop .i * c .before .before .row-size .result + c .before .before .row-size .result ≤ length (c .before .before .before .before .args .«data» .now)
+room : (c : tie.In-loop Inv-loop μ-loop)
+    → let size = c .before .before .row-size .result in c .before .loop .i * size + size ≤ length (c .before .before .before .before .args .«data» .now)
 room c =
     let s = c .before .before .before .before in
     rw (c .before .before .row-size .ensures) (row-end (s .args .layout) (s .args .«data» .now) (c .before .loop .i) (s .pre .1) (omega arith))

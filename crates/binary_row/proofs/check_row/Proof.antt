@@ -56,8 +56,11 @@ number : (c : tie.Else1) → let s = c .before .before .before .before .before .
 number c = rw (← c .before .word-of .ensures, eq-eqb (c .before .word-of .result) (c .before .before .before .before .before .before .args .n) (c .if1 .left))
 
 -- the padding, by the definition's part of the row
-free : (c : tie.After-padding-free) → let s = c .before .before .before .before .before .before .before .before .args in c .padding-free .result ≡ paddingFree (s .layout .statuses) (wordsPart (s .layout) (s .bytes .now))
-free c = c .padding-free .ensures ∙ rw (c .before .before .before .before .before .samples-end .ensures, c .before .before .before .before .before .before .before .before .pre .1)
+free : (c : tie.After-padding-free)
+    → let args = c .before .before .before .before .before .before .before .before .args in c .padding-free .result ≡ paddingFree (args .layout .statuses) (wordsPart (args .layout) (args .bytes .now))
+free c =
+    let samples = c .before .before .before .before .before in
+    c .padding-free .ensures ∙ rw (samples .samples-end .ensures, samples .before .before .before .pre .1)
 
 refused-requires-2 : tie.Need-refused-requires-2
 refused-requires-2 c κs = search needs

@@ -40,7 +40,8 @@ returns-2 : tie.Need-returns-2
 returns-2 c =
     let d = c .before .before .before .before .args .d in
     let b = c .before .before .before .before .args .b .now in
-    let n : c .word-of .result < 256 ^ 2 = rw (c .word-of .ensures) (wordOf-part-lt b (d / 16 * 2) (d / 16 * 2 + 2) 2 (all-bytes b (c .before .before .before .shared-slice-known .given)) (omega arith)) in
+    let small = all-bytes b (c .before .before .before .shared-slice-known .given) in
+    let n : c .word-of .result < 256 ^ 2 = rw (c .word-of .ensures) (wordOf-part-lt b (d / 16 * 2) (d / 16 * 2 + 2) 2 small (omega arith)) in
     mask-test (c .word-of .result) (d % 16) n (omega arith) ∙ rw (c .word-of .ensures, ne-eqb (d % 16) 0 (c .before .before .if1 .left))
 
 pub padding-free-spec : {M : Type 1} → statement M

@@ -34,7 +34,10 @@ statuses-of-requires c κs =
 
 returns : tie.Need-returns
 unfolding rowOf
-returns c = rw (c .before .before .before .row-time .ensures, c .before .before .row-samples .ensures, c .statuses-of .ensures, c .before .before .before .before .samples-end .ensures, c .before .before .before .before .before .before .before .pre .1)
+returns c =
+    let time = c .before .before .before in
+    let samples = time .before in
+    rw (time .row-time .ensures, c .before .before .row-samples .ensures, c .statuses-of .ensures, samples .samples-end .ensures, samples .before .before .before .pre .1)
 
 pub row-of-spec : {M : Type 1} → statement M
 row-of-spec =

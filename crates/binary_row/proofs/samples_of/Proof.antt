@@ -86,10 +86,12 @@ loop-less c = search needs
 
 loop-again : tie.Need-loop-again Inv-loop μ-loop
 loop-again c =
+    let turn = c .before .before .before .before in
+    let half = turn .before in
     let z = c .signed-of in
-    let f = bytesSample (c .before .before .before .before .before .before .width .result) (c .before .before .before .before .before .half .result) (c .before .before .before .before .before .before .before .before .args .b .now) in
+    let f = bytesSample (half .before .width .result) (half .half .result) (half .before .before .before .args .b .now) in
     let kept = toZ-ofZ w32 (z .result) (record { sfits = z .ok }) in
-    (omega arith, rw (kept, z .ensures, c .before .word-of .ensures, c .before .before .before .before .loop .inv .1) (padded-set f (c .before .before .before .before .loop .i) 96 (pos 0) (omega arith)))
+    (omega arith, rw (kept, z .ensures, c .before .word-of .ensures, turn .loop .inv .1) (padded-set f (turn .loop .i) 96 (pos 0) (omega arith)))
 
 returns : tie.Need-returns Inv-loop μ-loop
 returns c =

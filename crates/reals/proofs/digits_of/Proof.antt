@@ -18,7 +18,8 @@ abbrev μ-loop : tie.MeasureT-loop
 μ-loop m v₀ i₀ v i = length m - i
 
 -- what was read is a digit
-digit : (c : tie.Then1 Inv-loop μ-loop) → (48 ≤ getD (c .before .before .before .before .before .before .args .m .now) (c .before .before .before .before .loop .i) 0) × (getD (c .before .before .before .before .before .before .args .m .now) (c .before .before .before .before .loop .i) 0 ≤ 57)
+digit : (c : tie.Then1 Inv-loop μ-loop)
+    → let turn = c .before .before .before .before in let b = getD (turn .before .before .args .m .now) (turn .loop .i) 0 in (48 ≤ b) × (b ≤ 57)
 digit c = digit-bounds _ (sym (c .before .is-digit .ensures) ∙ c .if1 .taken)
 
 loop-holds : tie.Need-loop-holds Inv-loop μ-loop
@@ -50,14 +51,26 @@ loop-less c = search needs
 
 loop-again : tie.Need-loop-again Inv-loop μ-loop
 unfolding digitsOf
-loop-again c = (omega arith, more _ _ _ (c .before .before .before .before .before .loop .inv .1) (omega (arith, c .wide .ensures, digit (c .before))), rw (c .wide .ensures, c .before .before .before .before .before .loop .inv .2, here _ _ (c .before .before .before .before .loop-test .taken), digitsOf, ← c .before .before .is-digit .ensures, c .before .if1 .taken))
+loop-again c =
+    let test = c .before .before .before .before in
+    let inv = test .before .loop .inv in (
+      omega arith,
+      more _ _ _ (inv .1) (omega (arith, c .wide .ensures, digit (c .before))),
+      rw (c .wide .ensures, inv .2, here _ _ (test .loop-test .taken), digitsOf, ← c .before .before .is-digit .ensures, c .before .if1 .taken),
+    )
 
 loop-less-2 : tie.Need-loop-less-2 Inv-loop μ-loop
 loop-less-2 c = search needs
 
 loop-again-2 : tie.Need-loop-again-2 Inv-loop μ-loop
 unfolding digitsOf
-loop-again-2 c = (omega arith, cap _ _ _ (omega arith) (c .before .before .before .before .loop .inv .1), rw (c .before .before .before .before .loop .inv .2, here _ _ (c .before .before .before .loop-test .taken), digitsOf, ← c .before .is-digit .ensures, c .if1 .left))
+loop-again-2 c =
+    let test = c .before .before .before in
+    let inv = test .before .loop .inv in (
+      omega arith,
+      cap _ _ _ (omega arith) (inv .1),
+      rw (inv .2, here _ _ (test .loop-test .taken), digitsOf, ← c .before .is-digit .ensures, c .if1 .left),
+    )
 
 returns : tie.Need-returns Inv-loop μ-loop
 unfolding digitsOf

@@ -35,7 +35,9 @@ signed-exponent-requires c κs = search needs
 
 returns-3 : tie.Need-returns-3
 unfolding exponentOf
-returns-3 c = rw (c .signed-exponent .ensures, rest, first (c .before .before .before .before .before .before .before .args .s .now) (omega arith), ← c .before .before .before .is-e .ensures, not-false (c .before .before .before .is-e .result) (c .before .before .if2 .left))
+returns-3 c =
+    let e = c .before .before .before in
+    rw (c .signed-exponent .ensures, rest, first (e .before .before .before .before .args .s .now) (omega arith), ← e .is-e .ensures, not-false (e .is-e .result) (c .before .before .if2 .left))
 
 pub exponent-of-spec : {M : Type 1} → statement M
 exponent-of-spec =

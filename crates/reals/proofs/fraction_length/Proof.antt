@@ -33,15 +33,23 @@ leading-digits-requires : tie.Need-leading-digits-requires
 leading-digits-requires c κs = search needs
 
 add-result : tie.Need-add-result
-add-result c = let d = rw rest at (c .before .leading-digits .ensures) in omega (arith, d, simp length-drop at (digits-within (drop 1 (c .before .before .before .before .before .before .before .args .s .now))))
+add-result c =
+    let d = rw rest at (c .before .leading-digits .ensures) in
+    omega (arith, d, simp length-drop at (digits-within (drop 1 (c .before .before .before .before .before .before .before .args .s .now))))
 
 returns-3 : tie.Need-returns-3
 unfolding fractionLength
-returns-3 c = let d = rw rest at (c .before .leading-digits .ensures) in rw (first (c .before .before .before .before .before .before .before .args .s .now) (omega arith), eq-eqb _ 46 (c .before .before .before .if2 .left), ← d, lt-ltb 0 _ (c .if3 .taken))
+returns-3 c =
+    let d = rw rest at (c .before .leading-digits .ensures) in
+    let point = c .before .before .before in
+    rw (first (point .before .before .before .before .args .s .now) (omega arith), eq-eqb _ 46 (point .if2 .left), ← d, lt-ltb 0 _ (c .if3 .taken))
 
 returns-4 : tie.Need-returns-4
 unfolding fractionLength
-returns-4 c = let d = rw rest at (c .before .leading-digits .ensures) in rw (first (c .before .before .before .before .before .before .before .args .s .now) (omega arith), eq-eqb _ 46 (c .before .before .before .if2 .left), ← d, le-ltb 0 _ (c .if3 .left))
+returns-4 c =
+    let d = rw rest at (c .before .leading-digits .ensures) in
+    let point = c .before .before .before in
+    rw (first (point .before .before .before .before .args .s .now) (omega arith), eq-eqb _ 46 (point .if2 .left), ← d, le-ltb 0 _ (c .if3 .left))
 
 pub fraction-length-spec : {M : Type 1} → statement M
 fraction-length-spec =

@@ -28,7 +28,10 @@ is-nought-requires c κs = search needs
 
 returns : tie.Need-returns Inv-loop μ-loop
 unfolding isZero
-returns c = rw (c .before .before .before .before .loop .inv .1, here _ _ (c .before .before .before .loop-test .taken), every, ← c .before .is-nought .ensures, not-true (c .before .is-nought .result) (c .if1 .taken))
+returns c =
+    let test = c .before .before .before in
+    let nought = c .before .is-nought in
+    rw (test .before .loop .inv .1, here _ _ (test .loop-test .taken), every, ← nought .ensures, not-true (nought .result) (c .if1 .taken))
 
 add-i : tie.Need-add-i Inv-loop μ-loop
 add-i c = search needs
@@ -38,7 +41,10 @@ loop-less c = search needs
 
 loop-again : tie.Need-loop-again Inv-loop μ-loop
 unfolding isZero
-loop-again c = (omega arith, rw (c .before .before .before .before .loop .inv .1, here _ _ (c .before .before .before .loop-test .taken), every, ← c .before .is-nought .ensures, not-false (c .before .is-nought .result) (c .if1 .left)))
+loop-again c =
+    let test = c .before .before .before in
+    let nought = c .before .is-nought in
+    (omega arith, rw (test .before .loop .inv .1, here _ _ (test .loop-test .taken), every, ← nought .ensures, not-false (nought .result) (c .if1 .left)))
 
 returns-2 : tie.Need-returns-2 Inv-loop μ-loop
 unfolding isZero

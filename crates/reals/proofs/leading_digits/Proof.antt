@@ -27,7 +27,10 @@ is-digit-requires c κs = search needs
 
 returns : tie.Need-returns Inv-loop μ-loop
 unfolding leadingDigits
-returns c = rw (c .before .before .before .before .loop .inv .1, here _ _ (c .before .before .before .loop-test .taken), leadingDigits, ← c .before .is-digit .ensures, not-true (c .before .is-digit .result) (c .if1 .taken)) (omega arith)
+returns c =
+    let test = c .before .before .before in
+    let digit = c .before .is-digit in
+    rw (test .before .loop .inv .1, here _ _ (test .loop-test .taken), leadingDigits, ← digit .ensures, not-true (digit .result) (c .if1 .taken)) (omega arith)
 
 add-i : tie.Need-add-i Inv-loop μ-loop
 add-i c = search needs
@@ -37,7 +40,10 @@ loop-less c = search needs
 
 loop-again : tie.Need-loop-again Inv-loop μ-loop
 unfolding leadingDigits
-loop-again c = (omega arith, rw (c .before .before .before .before .loop .inv .1, here _ _ (c .before .before .before .loop-test .taken), leadingDigits, ← c .before .is-digit .ensures, not-false (c .before .is-digit .result) (c .if1 .left)) (omega arith))
+loop-again c =
+    let test = c .before .before .before in
+    let digit = c .before .is-digit in
+    (omega arith, rw (test .before .loop .inv .1, here _ _ (test .loop-test .taken), leadingDigits, ← digit .ensures, not-false (digit .result) (c .if1 .left)) (omega arith))
 
 returns-2 : tie.Need-returns-2 Inv-loop μ-loop
 unfolding leadingDigits

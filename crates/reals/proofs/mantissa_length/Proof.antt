@@ -29,7 +29,11 @@ fraction-length-requires : tie.Need-fraction-length-requires
 fraction-length-requires c κs = search needs
 
 add-result : tie.Need-add-result
-add-result c = let f = rw rest at (c .fraction-length .ensures) in omega (arith, f, simp length-drop at (fraction-within (drop (c .before .before .before .leading-digits .result) (c .before .before .before .before .before .args .s .now))), c .before .before .before .leading-digits .ensures, digits-within (c .before .before .before .before .before .args .s .now))
+add-result c =
+    let digits = c .before .before .before .leading-digits in
+    let s = c .before .before .before .before .before .args .s .now in
+    let f = rw rest at (c .fraction-length .ensures) in
+    omega (arith, f, simp length-drop at (fraction-within (drop (digits .result) s)), digits .ensures, digits-within s)
 
 returns-2 : tie.Need-returns-2
 unfolding mantissaLength

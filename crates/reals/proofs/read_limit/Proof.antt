@@ -29,11 +29,16 @@ part-signed-limit-end : tie.Need-part-signed-limit-end
 part-signed-limit-end c = search needs
 
 signed-limit-requires : tie.Need-signed-limit-requires
-signed-limit-requires c κs = length-left 1 13 13 (c .before .before .before .before .before .args .field .now) (c .before .leading-spaces .result) (sym (c .before .before .before .length-in .ensures) ∙ not-false (c .before .before .before .length-in .result) (c .before .before .if1 .left)) (lit≤ tt)
+signed-limit-requires c κs =
+    let long = c .before .before .before .length-in in
+    length-left 1 13 13 (c .before .before .before .before .before .args .field .now) (c .before .leading-spaces .result)
+    (sym (long .ensures) ∙ not-false (long .result) (c .before .before .if1 .left)) (lit≤ tt)
 
 returns-2 : tie.Need-returns-2
 unfolding readLimit
-returns-2 c = rw (c .signed-limit .ensures, rest, ← c .before .before .before .before .length-in .ensures, not-false (c .before .before .before .before .length-in .result) (c .before .before .before .if1 .left), ← c .before .before .leading-spaces .ensures)
+returns-2 c =
+    let long = c .before .before .before .before .length-in in
+    rw (c .signed-limit .ensures, rest, ← long .ensures, not-false (long .result) (c .before .before .before .if1 .left), ← c .before .before .leading-spaces .ensures)
 
 pub read-limit-spec : {M : Type 1} → statement M
 read-limit-spec =

@@ -31,7 +31,9 @@ signed-real-requires c κs = search needs
 
 returns-2 : tie.Need-returns-2
 unfolding readReal
-returns-2 c = rw (c .signed-real .ensures, rest, ← c .before .before .before .before .length-in .ensures, not-false (c .before .before .before .before .length-in .result) (c .before .before .before .if1 .left), ← c .before .before .leading-spaces .ensures)
+returns-2 c =
+    let long = c .before .before .before .before .length-in in
+    rw (c .signed-real .ensures, rest, ← long .ensures, not-false (long .result) (c .before .before .before .if1 .left), ← c .before .before .leading-spaces .ensures)
 
 pub read-real-spec : {M : Type 1} → statement M
 read-real-spec =

@@ -30,7 +30,9 @@ enum-told-2 c = search needs
 
 returns : tie.Need-returns
 unfolding realSign
-returns c = rw (c .sign-of .ensures, c .before .is-zero .ensures, c .before .before .before .mantissa-length .ensures, ← c .before .before .before .before .before .before .real-form .ensures, c .before .before .before .before .enum-told .given .1)
+returns c =
+    let form = c .before .before .before .before in
+    rw (c .sign-of .ensures, c .before .is-zero .ensures, c .before .before .before .mantissa-length .ensures, ← form .before .before .real-form .ensures, form .enum-told .given .1)
 
 returns-2 : tie.Need-returns-2
 unfolding realSign

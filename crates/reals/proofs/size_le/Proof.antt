@@ -59,7 +59,8 @@ returns-4 c =
     let p = c .before .before .before .before .decimal-length .ensures in
     let q = c .before .before .before .decimal-length2 .ensures in
     let e = c .before .before .if3 .left in
-    rw (c .before .to-places .ensures, c .to-places2 .ensures, p, q) (sym (level 13 _ _ _ _ (short-m (c .before .before .before .before .before .before .before)) (short-n (c .before .before .before .before .before .before .before)) (rw (p, q) at e)))
+    let start = c .before .before .before .before .before .before .before in
+    rw (c .before .to-places .ensures, c .to-places2 .ensures, p, q) (sym (level 13 _ _ _ _ (short-m start) (short-n start) (rw (p, q) at e)))
 
 pub size-le-spec : {M : Type 1} → statement M
 size-le-spec =

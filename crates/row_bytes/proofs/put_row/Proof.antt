@@ -21,8 +21,9 @@ put-text-requires c κs = (c .before .before .before .before .pre .0, c .before 
 put-row-requires : tie.Need-put-row-requires
 unfolding lengthOf
 put-row-requires c κs =
-    let a = c .before .before .before .args in
-    (c .before .before .before .pre .0, c .before .before .before .pre .1 ∙ binary-arm (a .layout .kind) (textLength (a .layout) (a .n) (a .row)) (rowSize (a .layout)) (c .before .match .keys2), c .before .before .before .pre .2)
+    let start = c .before .before .before in
+    let a = start .args in
+    (start .pre .0, start .pre .1 ∙ binary-arm (a .layout .kind) (textLength (a .layout) (a .n) (a .row)) (rowSize (a .layout)) (c .before .match .keys2), start .pre .2)
 
 same-length : tie.Need-same-length
 same-length c = search needs
@@ -37,8 +38,9 @@ same-length-2 c = search needs
 returns-2 : tie.Need-returns-2
 unfolding bytesOf
 returns-2 c =
-    let a = c .before .before .before .before .before .before .args in
-    c .before .before .put-row .ensures ∙ sym (binary-arm (a .layout .kind) (textOf (a .layout) (a .n) (a .row)) (binaryOf (a .layout) (a .n) (a .row)) (c .before .before .before .before .match .keys2))
+    let arm = c .before .before .before .before in
+    let a = arm .before .before .args in
+    c .before .before .put-row .ensures ∙ sym (binary-arm (a .layout .kind) (textOf (a .layout) (a .n) (a .row)) (binaryOf (a .layout) (a .n) (a .row)) (arm .match .keys2))
 
 pub put-row-spec : {M : Type 1} → statement M
 put-row-spec =

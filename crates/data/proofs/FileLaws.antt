@@ -86,7 +86,9 @@ module _ (l : Layout) (ok : isSized l ≡ true) (r : ℕ → Row) (writes : (i :
   unfolding rowAt misfitOf
   row-back i h =
       by-kind (l .kind)
-      (λ e. rw (text-kind (l .kind) (textRow l i (fileOf l r)) (binaryRow l i (fileOf l r)) e, file-text l e r) (ascii_file.text-reads-back l (sized l ok) r (λ j k. fits-text l e (r j) (writes j k)) i h))
+      (λ e.
+      rw (text-kind (l .kind) (textRow l i (fileOf l r)) (binaryRow l i (fileOf l r)) e, file-text l e r)
+      (ascii_file.text-reads-back l (sized l ok) r (λ j k. fits-text l e (r j) (writes j k)) i h))
       (λ e.
       rw (binary-kind (l .kind) (textRow l i (fileOf l r)) (binaryRow l i (fileOf l r)) e, file-binary l e r)
       (binary-reads-back l r i h (writes i h .all) (writes i h .time)))

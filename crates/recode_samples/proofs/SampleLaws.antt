@@ -82,9 +82,10 @@ module _ (n : ℕ) where
 
   fits-told : fitsKind Binary (signedOf 2147483648 n) ≡ true → n < 4294967296 → (n < 32768 → ⊥) → 4294934528 ≤ n
   fits-told t k other =
+      let m : mag (signedOf 2147483648 n) < 32768 = fits-size Binary (signedOf 2147483648 n) t in
       ⊎-elim
-      (λ l. let m : mag (signedOf 2147483648 n) < 32768 = fits-size Binary (signedOf 2147483648 n) t in absurd (other (rw (signed-low 2147483648 n l) at m)))
-      (λ l. let m : mag (signedOf 2147483648 n) < 32768 = fits-size Binary (signedOf 2147483648 n) t in let q : 2147483648 + 2147483648 - suc n < 32768 = rw (signed-high 2147483648 n l) at m in omega arith)
+      (λ l. absurd (other (rw (signed-low 2147483648 n l) at m)))
+      (λ l. let q : 2147483648 + 2147483648 - suc n < 32768 = rw (signed-high 2147483648 n l) at m in omega arith)
       (lt-or-ge n 2147483648)
 
 module _ (b : List ℕ) where

@@ -51,9 +51,10 @@ there c = sym (c .before .has-row .ensures) ∙ not-false (c .before .has-row .r
 
 first-misfit-requires : tie.Need-first-misfit-requires
 first-misfit-requires c κs = let s = fit (c .before .before .before .before) in omega arith
-    -- the first misfit is one of the samples, or there is none
 
-found : (c : tie.After-first-misfit) → misfitOf (c .before .before .before .before .before .before .before .args .layout) (c .before .before .before .before .before .before .before .args .row) ≡ c .first-misfit .result
+-- the first misfit is one of the samples, or there is none
+found : (c : tie.After-first-misfit)
+    → let s = c .before .before .before .before .before .before .before .args in misfitOf (s .layout) (s .row) ≡ c .first-misfit .result
 unfolding misfitOf
 found c = sym (c .first-misfit .ensures)
 
@@ -73,8 +74,11 @@ row-length-requires : tie.Need-row-length-requires
 row-length-requires c κs = fit (c .before .before .before .before .before)
 
 -- as many bytes as the row takes
-size : (c : tie.After-row-length) → c .row-length .result ≡ length (bytesOf (c .before .before .before .before .before .before .before .before .args .layout) (c .before .before .before .before .before .before .before .before .args .n) (c .before .before .before .before .before .before .before .before .args .row))
-size c = c .row-length .ensures ∙ length-bytes (c .before .before .before .before .before .before .before .before .args .layout) (c .before .before .before .before .before .before .before .before .args .n) (c .before .before .before .before .before .before .before .before .args .row)
+size : (c : tie.After-row-length)
+    → let s = c .before .before .before .before .before .before .before .before .args in c .row-length .result ≡ length (bytesOf (s .layout) (s .n) (s .row))
+size c =
+    let s = c .before .before .before .before .before .before .before .before .args in
+    c .row-length .ensures ∙ length-bytes (s .layout) (s .n) (s .row)
 
 refused-requires-3 : tie.Need-refused-requires-3
 refused-requires-3 c κs = search needs
@@ -91,14 +95,18 @@ refused-requires-4 c κs = search needs
 returns-4 : tie.Need-returns-4
 unfolding writeSaid
 returns-4 c =
-    let m = c .before .before .before .before in
-    rw (c .refused4 .ensures, ok (m .before .before .before .before .before), there (m .before .before .before), found m, eq-eqb _ _ (c .before .before .if3 .left), ← size (c .before .before .before), lt-leb _ _ (c .before .if4 .taken))
+    let k = c .before .before .before in
+    let m = k .before in
+    let e = m .before .before .before in
+    rw (c .refused4 .ensures, ok (e .before .before), there e, found m, eq-eqb _ _ (c .before .before .if3 .left), ← size k, lt-leb _ _ (c .before .if4 .taken))
 
 returns-5 : tie.Need-returns-5
 unfolding writeSaid
 returns-5 c =
-    let m = c .before .before .before in
-    rw (ok (m .before .before .before .before .before), there (m .before .before .before), found m, eq-eqb _ _ (c .before .if3 .left), ← size (c .before .before), le-leb _ _ (c .if4 .left), ← size (c .before .before))
+    let k = c .before .before in
+    let m = k .before in
+    let e = m .before .before .before in
+    rw (ok (e .before .before), there e, found m, eq-eqb _ _ (c .before .if3 .left), ← size k, le-leb _ _ (c .if4 .left), ← size k)
 
 pub may-write-spec : {M : Type 1} → statement M
 may-write-spec =

@@ -19,7 +19,9 @@ fine : (c : tie.After-enum-told) → checkBinary (c .before .before .before .bef
 fine c = yes-told _ (sym (c .before .before .check-binary .ensures) ∙ c .enum-told .given .1)
 
 row-at-requires : tie.Need-row-at-requires
-row-at-requires c κs = (c .before .before .before .before .pre .0, whole (c .before .before .before .before .args .layout) (c .before .before .before .before .args .«data» .now) (fine c) .0, c .before .before .before .before .pre .1)
+row-at-requires c κs =
+    let s = c .before .before .before .before in
+    (s .pre .0, whole (s .args .layout) (s .args .«data» .now) (fine c) .0, s .pre .1)
 
 enum-known-answer : tie.Need-enum-known-answer
 enum-known-answer c = search needs
@@ -31,7 +33,10 @@ returns : tie.Need-returns
 returns c = rw (c .row-at .ensures, fine (c .before))
 
 returns-2 : tie.Need-returns-2
-returns-2 c = rw (c .not-shown .ensures, no-told (checkBinary (c .before .before .before .before .before .before .args .layout) (c .before .before .before .before .before .before .args .«data» .now)) (c .before .before .answer .given .0 .0) (sym (c .before .before .before .before .check-binary .ensures) ∙ c .before .before .answer .given .1))
+returns-2 c =
+    let s = c .before .before .before .before .before .before .args in
+    let no = c .before .before .answer .given in
+    rw (c .not-shown .ensures, no-told (checkBinary (s .layout) (s .«data» .now)) (no .0 .0) (sym (c .before .before .before .before .check-binary .ensures) ∙ no .1))
 
 pub show-binary-spec : {M : Type 1} → statement M
 show-binary-spec =

@@ -30,7 +30,9 @@ ok c = sym (c .before .is-sized .ensures) ∙ not-false (c .before .is-sized .re
 
 returns : tie.Need-returns
 unfolding showRow
-returns c = rw (c .not-shown .ensures, c .before .refused .ensures, ← c .before .before .before .is-sized .ensures, not-true (c .before .before .before .is-sized .result) (c .before .before .if1 .taken))
+returns c =
+    let e = c .before .before .before .is-sized in
+    rw (c .not-shown .ensures, c .before .refused .ensures, ← e .ensures, not-true (e .result) (c .before .before .if1 .taken))
 
 has-row-requires : tie.Need-has-row-requires
 has-row-requires c κs = search needs
@@ -43,7 +45,9 @@ not-shown-requires-2 c κs = search needs
 
 returns-2 : tie.Need-returns-2
 unfolding showRow
-returns-2 c = rw (c .not-shown2 .ensures, c .before .refused2 .ensures, ok (c .before .before .before .before), ← c .before .before .before .has-row .ensures, not-true (c .before .before .before .has-row .result) (c .before .before .if2 .taken))
+returns-2 c =
+    let h = c .before .before .before in
+    rw (c .not-shown2 .ensures, c .before .refused2 .ensures, ok (h .before), ← h .has-row .ensures, not-true (h .has-row .result) (c .before .before .if2 .taken))
 
 enum-told : tie.Need-enum-told
 enum-told c = search needs
@@ -52,7 +56,8 @@ enum-told c = search needs
 there : (c : tie.Else2) → hasRow (c .before .before .before .before .before .args .layout) (c .before .before .before .before .before .args .n) ≡ true
 there c = sym (c .before .has-row .ensures) ∙ not-false (c .before .has-row .result) (c .if2 .left)
 
-asked : (c : tie.Else2) → (1 ≤ c .before .before .before .before .before .args .n) × ((Sized (c .before .before .before .before .before .args .layout)) × (c .before .before .before .before .before .args .n - 1 < c .before .before .before .before .before .args .layout .rows))
+asked : (c : tie.Else2)
+    → let s = c .before .before .before .before .before .args in (1 ≤ s .n) × ((Sized (s .layout)) × (s .n - 1 < s .layout .rows))
 asked c =
     let s = c .before .before .before .before .before .args in
     let t = row-told (s .layout) (s .n) (there c) in

@@ -30,7 +30,10 @@ returns : tie.Need-returns
 returns c = rw (c .row-at .ensures, fine (c .before))
 
 returns-2 : tie.Need-returns-2
-returns-2 c = rw (c .not-shown .ensures, no-told (checkText (c .before .before .before .before .before .before .args .layout) (c .before .before .before .before .before .before .args .«data» .now)) (c .before .before .answer .given .0 .0) (sym (c .before .before .before .before .check-text .ensures) ∙ c .before .before .answer .given .1))
+returns-2 c =
+    let s = c .before .before .before .before .before .before .args in
+    let no = c .before .before .answer .given in
+    rw (c .not-shown .ensures, no-told (checkText (s .layout) (s .«data» .now)) (no .0 .0) (sym (c .before .before .before .before .check-text .ensures) ∙ no .1))
 
 pub show-text-spec : {M : Type 1} → statement M
 show-text-spec =

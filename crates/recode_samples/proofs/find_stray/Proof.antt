@@ -54,7 +54,8 @@ loop-less c = search needs
 loop-again : tie.Need-loop-again Inv-loop μ-loop
 loop-again c =
     let s = c .before .before .before .before .before .before in
-    (omega arith, sym (search-on (s .args .b .now) (s .args .a) (c .before .before .before .before .loop .i) (c .before .before .before .loop-test .taken) (sym (c .before .stray .ensures) ∙ c .if1 .left)) ∙ c .before .before .before .before .loop .inv .1)
+    let p = c .before .before .before .before .loop in
+    (omega arith, sym (search-on (s .args .b .now) (s .args .a) (p .i) (c .before .before .before .loop-test .taken) (sym (c .before .stray .ensures) ∙ c .if1 .left)) ∙ p .inv .1)
 
 returns-2 : tie.Need-returns-2 Inv-loop μ-loop
 returns-2 c =

@@ -56,7 +56,11 @@ part-narrow-end-2 c = search needs
 narrow-requires : tie.Need-narrow-requires Inv-loop μ-loop
 narrow-requires c κs =
     let s = c .before .before .before .before .before .before in
-    (length-part (c .before .before .before .loop .i * 4) (c .before .before .before .loop .i * 4 + 4) (s .args .b .now) (omega arith) ∙ omega arith, length-part (c .before .before .before .loop .i * 2) (c .before .before .before .loop .i * 2 + 2) (c .before .before .before .loop .d) (omega arith) ∙ omega arith, no-stray (s .args .b .now) (s .args .a) (s .pre .2) (c .before .before .before .loop .i) (c .before .before .loop-test .taken))
+    let p = c .before .before .before .loop in (
+      length-part (p .i * 4) (p .i * 4 + 4) (s .args .b .now) (omega arith) ∙ omega arith,
+      length-part (p .i * 2) (p .i * 2 + 2) (p .d) (omega arith) ∙ omega arith,
+      no-stray (s .args .b .now) (s .args .a) (s .pre .2) (p .i) (c .before .before .loop-test .taken),
+    )
 
 add-i : tie.Need-add-i Inv-loop μ-loop
 add-i c = search needs
@@ -66,8 +70,12 @@ loop-less c = search needs
 
 loop-again : tie.Need-loop-again Inv-loop μ-loop
 loop-again c =
-    let s = c .before .before .before .before .before .before .before .before .before in
-    let t = cat-turn (λ j. recoded Binary32 Binary (bytesAt Binary32 (s .args .b .now) j)) 2 (λ j. length-recoded Binary32 Binary _) (s .args .d .now) (c .before .before .before .before .before .before .loop .d) (c .before .before .narrow .last .1 .0) (c .before .before .before .before .before .before .loop .i) (c .before .before .before .before .before .before .loop .inv .1) (c .before .before .before .before .before .before .loop .inv .2) (omega arith) (c .before .before .narrow .ensures) in
+    let s = c .before .before .before .before .before .before .before .before .before .args in
+    let p = c .before .before .before .before .before .before .loop in
+    let put = c .before .before .narrow in
+    let t =
+    cat-turn (λ j. recoded Binary32 Binary (bytesAt Binary32 (s .b .now) j)) 2 (λ j. length-recoded Binary32 Binary _)
+    (s .d .now) (p .d) (put .last .1 .0) (p .i) (p .inv .1) (p .inv .2) (omega arith) (put .ensures) in
     (omega arith, t .0, t .1)
 
 same-length : tie.Need-same-length Inv-loop μ-loop
@@ -76,7 +84,8 @@ same-length c = search needs
 returns : tie.Need-returns Inv-loop μ-loop
 returns c =
     let s = c .before .before .before .before in
-    recoded-all Binary32 Binary (s .args .a) (c .before .loop .i) (s .args .b .now) (s .args .d .now) (c .before .loop .d) (omega arith) (s .pre .1) (c .before .loop .inv .2)
+    let p = c .before .loop in
+    recoded-all Binary32 Binary (s .args .a) (p .i) (s .args .b .now) (s .args .d .now) (p .d) (omega arith) (s .pre .1) (p .inv .2)
 
 pub narrow-all-spec : {M : Type 1} → statement M
 narrow-all-spec =

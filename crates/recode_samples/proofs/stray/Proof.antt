@@ -13,10 +13,14 @@ returns : tie.Need-returns
 returns c = sym (stray-low (c .before .before .before .args .b .now) (omega (arith, c .before .four .ensures, c .if1 .taken)))
 
 returns-2 : tie.Need-returns-2
-returns-2 c = sym (stray-mid (c .before .before .before .before .args .b .now) (omega (arith, c .before .before .four .ensures, c .before .if1 .left)) (omega (arith, c .before .before .four .ensures, c .if2 .taken)))
+returns-2 c =
+    let n = c .before .before .four .ensures in
+    sym (stray-mid (c .before .before .before .before .args .b .now) (omega (arith, n, c .before .if1 .left)) (omega (arith, n, c .if2 .taken)))
 
 returns-3 : tie.Need-returns-3
-returns-3 c = sym (stray-high (c .before .before .before .before .args .b .now) (omega (arith, c .before .before .four .ensures, c .if2 .left)) (omega (arith, c .before .before .four .ensures, c .before .before .four .ok)))
+returns-3 c =
+    let n = c .before .before .four in
+    sym (stray-high (c .before .before .before .before .args .b .now) (omega (arith, n .ensures, c .if2 .left)) (omega (arith, n .ensures, n .ok)))
 
 pub stray-spec : {M : Type 1} → statement M
 stray-spec = tie.close (tie.spec four-requires returns returns-2 returns-3)

@@ -50,8 +50,12 @@ loop-less c = search needs
 
 loop-again : tie.Need-loop-again Inv-loop μ-loop
 loop-again c =
-    let s = c .before .before .before .before .before in
-    (omega arith, omega (arith, c .stray .ensures, stray-le (bytesAt Binary32 (s .args .b .now) (c .before .before .before .loop .i)), c .before .before .before .loop .inv .1), rw (c .stray .ensures, c .before .before .before .loop .inv .2) (sym (strays-next (s .args .b .now) (c .before .before .before .loop .i))))
+    let b = c .before .before .before .before .before .args .b .now in
+    let p = c .before .before .before .loop in (
+      omega arith,
+      omega (arith, c .stray .ensures, stray-le (bytesAt Binary32 b (p .i)), p .inv .1),
+      rw (c .stray .ensures, p .inv .2) (sym (strays-next b (p .i))),
+    )
 
 returns : tie.Need-returns Inv-loop μ-loop
 returns c =

@@ -63,8 +63,12 @@ loop-less c = search needs
 
 loop-again : tie.Need-loop-again Inv-loop μ-loop
 loop-again c =
-    let s = c .before .before .before .before .before .before .before .before .before in
-    let t = cat-turn (λ j. recoded Binary Binary32 (bytesAt Binary (s .args .b .now) j)) 4 (λ j. length-recoded Binary Binary32 _) (s .args .d .now) (c .before .before .before .before .before .before .loop .d) (c .before .before .widen .last .1 .0) (c .before .before .before .before .before .before .loop .i) (c .before .before .before .before .before .before .loop .inv .1) (c .before .before .before .before .before .before .loop .inv .2) (omega arith) (c .before .before .widen .ensures) in
+    let s = c .before .before .before .before .before .before .before .before .before .args in
+    let p = c .before .before .before .before .before .before .loop in
+    let put = c .before .before .widen in
+    let t =
+    cat-turn (λ j. recoded Binary Binary32 (bytesAt Binary (s .b .now) j)) 4 (λ j. length-recoded Binary Binary32 _)
+    (s .d .now) (p .d) (put .last .1 .0) (p .i) (p .inv .1) (p .inv .2) (omega arith) (put .ensures) in
     (omega arith, t .0, t .1)
 
 same-length : tie.Need-same-length Inv-loop μ-loop
@@ -73,7 +77,8 @@ same-length c = search needs
 returns : tie.Need-returns Inv-loop μ-loop
 returns c =
     let s = c .before .before .before .before in
-    recoded-all Binary Binary32 (s .args .a) (c .before .loop .i) (s .args .b .now) (s .args .d .now) (c .before .loop .d) (omega arith) (s .pre .1) (c .before .loop .inv .2)
+    let p = c .before .loop in
+    recoded-all Binary Binary32 (s .args .a) (p .i) (s .args .b .now) (s .args .d .now) (p .d) (omega arith) (s .pre .1) (p .inv .2)
 
 pub widen-all-spec : {M : Type 1} → statement M
 widen-all-spec =

@@ -32,7 +32,8 @@ cast-t9 : tie.Need-cast-t9
 cast-t9 c = search needs
 
 -- the new row's size, and how many bytes all take
-size : (c : tie.After-row-size) → c .row-size .result ≡ rowSize (inKind (c .before .before .before .before .before .before .args .kind) (c .before .before .before .before .before .before .args .layout))
+size : (c : tie.After-row-size)
+    → let s = c .before .before .before .before .before .before .args in c .row-size .result ≡ rowSize (inKind (s .kind) (s .layout))
 size c = c .row-size .ensures ∙ rw (c .before .in-kind .ensures)
 
 few : (c : tie.After-row-size) → c .before .before .before .before .before .before .args .layout .rows * c .row-size .result < 2 ^ 32
@@ -49,14 +50,18 @@ enum-known-refusal c = search needs
 returns : tie.Need-returns
 unfolding settleBinary
 returns c =
-    let s = c .before .before .before .before .before .before .before in
-    (rw (size (c .before), yes-told (fitFrom (s .args .layout) (s .args .kind) (s .args .«data» .now) 0 (s .args .layout .rows)) (sym (c .before .before .before .before .before .all-fit .ensures) ∙ c .before .before .before .enum-told .given .1)), few (c .before))
+    let s = c .before .before .before .before .before .before .before .args in
+    let e = c .before .before .before in
+    let told = yes-told (fitFrom (s .layout) (s .kind) (s .«data» .now) 0 (s .layout .rows)) (sym (e .before .before .all-fit .ensures) ∙ e .enum-told .given .1) in
+    (rw (size (c .before), told), few (c .before))
 
 returns-2 : tie.Need-returns-2
 unfolding settleBinary
 returns-2 c =
-    let s = c .before .before .before .before .before in
-    (rw (no-told (fitFrom (s .args .layout) (s .args .kind) (s .args .«data» .now) 0 (s .args .layout .rows)) (c .before .refusal .given .0 .0) (sym (c .before .before .before .all-fit .ensures) ∙ c .before .refusal .given .1)), tt)
+    let s = c .before .before .before .before .before .args in
+    let no = c .before .refusal .given in
+    let told = no-told (fitFrom (s .layout) (s .kind) (s .«data» .now) 0 (s .layout .rows)) (no .0 .0) (sym (c .before .before .before .all-fit .ensures) ∙ no .1) in
+    (rw told, tt)
 
 pub settle-binary-spec : {M : Type 1} → statement M
 settle-binary-spec =

@@ -33,7 +33,7 @@ use Rattle.model.specs.declared.Refusal.{Refusal}
 use Rattle.model.specs.declared.Answer.the-variants.{Yes}
 use Rattle.model.specs.Layouts.{Sized, inKind}
 use Rattle.model.specs.Refusals.{refused}
-use Rattle.model.specs.Rows.{trimmed}
+use Rattle.model.specs.Rows.{latestTime, trimmed}
 use Rattle.row_bytes.specs.Rows.{bytesOf}
 use Rattle.data.specs.Files.{hasRow, misfitOf, checkFile, rowAnswer, showRow, writeSaid, fileOf}
 use Rattle.model.proofs.LayoutLaws.{sized-is}
@@ -48,11 +48,11 @@ use Rattle.exact_data.proofs.PlainLaws.{plain-written}
 use Rattle.exact_data.proofs.ChangeLaws.{none-first, one-first, new-file, new-said, back-said, restored, told}
 
 -- a row that was written can be written
-writes : (l : Layout) (n : ℕ) (r : Row) (room : ℕ) (b : List ℕ) → r .time ≤ 4294967295 → writeSaid l n r room ≡ says b → Writes l r
+writes : (l : Layout) (n : ℕ) (r : Row) (room : ℕ) (b : List ℕ) → r .time ≤ latestTime → writeSaid l n r room ≡ says b → Writes l r
 writes l n r room b h e = record { time = omega arith; all = writable l n r room b e .all }
 
 -- DEMAND 2. A row, the n-th of a sized layout, whose timestamp has 32 bits, is written where there is room exactly when each of its samples is in the kind's range
-pub written-exactly : (l : Layout) (n : ℕ) (r : Row) → Sized l → 1 ≤ n → n ≤ l .rows → r .time ≤ 4294967295
+pub written-exactly : (l : Layout) (n : ℕ) (r : Row) → Sized l → 1 ≤ n → n ≤ l .rows → r .time ≤ latestTime
     → Fitting l r ↔ ((b : List ℕ) × ((room : ℕ) → length b ≤ room → writeSaid l n r room ≡ says b))
 unfolding writeSaid hasRow
 written-exactly l n r size h k early = (
@@ -72,7 +72,7 @@ written-exactly l n r size h k early = (
 
 -- DEMAND 2. A row that was written, standing in a data file as row n, is shown as it was written: its places past A and D zero
 pub written-stands : (l : Layout) (n : ℕ) (r : Row) (room : ℕ) (b s : List ℕ) (q : ℕ → Row) → every isByte s ≡ true
-    → writeSaid l n r room ≡ says b → r .time ≤ 4294967295 → DataFile l q s → Stands l n b s → showRow l s n ≡ rowAnswer (says (trimmed l r))
+    → writeSaid l n r room ≡ says b → r .time ≤ latestTime → DataFile l q s → Stands l n b s → showRow l s n ≡ rowAnswer (says (trimmed l r))
 written-stands l n r room b s q bytes e h t st =
     let w = writable l n r room b e in
     let k = row-told l n (w .there) in
@@ -82,7 +82,7 @@ written-stands l n r room b s q bytes e h t st =
 
 -- DEMAND 2. Rows that were written, one after the other, and then any of the endings are the data file of these rows: it is accepted, and shows each as it was written
 pub three-endings : (l : Layout) (r : ℕ → Row) (room : ℕ → ℕ) (b : ℕ → List ℕ) (end : List ℕ) → Sized l
-    → ((i : ℕ) → i < l .rows → (r i .time ≤ 4294967295) × (writeSaid l (i + 1) (r i) (room i) ≡ says (b i))) → EndingOf (l .kind) end
+    → ((i : ℕ) → i < l .rows → (r i .time ≤ latestTime) × (writeSaid l (i + 1) (r i) (room i) ≡ says (b i))) → EndingOf (l .kind) end
     → DataFile l (λ i. trimmed l (r i)) (cat b (l .rows) ++ end)
     × (checkFile l (cat b (l .rows) ++ end) ≡ Yes)
     × ((i : ℕ) → i < l .rows → showRow l (cat b (l .rows) ++ end) (i + 1) ≡ rowAnswer (says (trimmed l (r i))))

@@ -10,8 +10,6 @@ use Rattle.model.specs.declared.KindNo.{KindNo}
 use Rattle.model.specs.declared.KindNo.the-variants as number
 use Rattle.model.specs.declared.Layout.{Layout}
 use Rattle.model.specs.declared.Refusal.{Refusal}
-use Rattle.model.specs.declared.Answer.{Answer}
-use Rattle.model.specs.declared.Answer.the-variants as answer
 use Rattle.model.specs.Refusals.{refused}
 use Rattle.answers.specs.declared.zl_answer.{«zl_answer»}
 
@@ -46,11 +44,6 @@ kindSaid number.None = refuses (refused 10 0 0)
 -- the layout of three numbers and a kind
 abbrev pub layoutBy : ℕ → ℕ → ℕ → Kind → Layout
 layoutBy a d rows k = record { analogs = a; statuses = d; rows = rows; kind = k }
-
--- what a check says
-abbrev pub accepted : Answer → Said Refusal (Unit {0})
-accepted answer.Yes = says tt
-accepted (answer.No r) = refuses r
 
 -- places that fit the room: 17 where they do not
 abbrev pub placed : {A : Type 0} → ℕ → List A → ℕ → Said Refusal (List A)

@@ -4,12 +4,13 @@ use Rattle.model.specs.declared.Answer.{Answer}
 use Rattle.model.specs.declared.Written.{Written}
 use Rattle.model.specs.declared.Written.the-variants.{Bytes, No}
 use Rattle.answers.specs.declared.zl_answer.{«zl_answer»}
-use Rattle.answers.specs.Answers.{yes, no, told, accepted}
+use Rattle.model.specs.Refusals.{answerSaid}
+use Rattle.answers.specs.Answers.{yes, no, told}
 
 -- of a check: it has no length
 abbrev pub plainly : Answer → «zl_answer»
 plainly a = told (do
-  accepted a
+  answerSaid a
   says 0)
 
 -- of a call that tells so many bytes

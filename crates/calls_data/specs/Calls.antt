@@ -10,23 +10,23 @@ use Rattle.model.specs.declared.Row.{Row}
 use Rattle.model.specs.declared.Refusal.{Refusal}
 use Rattle.model.specs.Kinds.{kindOf}
 use Rattle.model.specs.Layouts.{isSized}
-use Rattle.model.specs.Refusals.{refused}
+use Rattle.model.specs.Refusals.{refused, answerSaid}
 use Rattle.data.specs.declared.RowAnswer.{RowAnswer}
 use Rattle.data.specs.Files.{checkFile, showRow, hasRow, writeSaid}
 use Rattle.row_places.specs.Rows.{placesOf, rowPlaces, unfit, rowOfPlaces}
-use Rattle.answers.specs.Answers.{kindSaid, layoutBy, accepted, placed}
+use Rattle.answers.specs.Answers.{kindSaid, layoutBy, placed}
 
 -- zl_check: whether a data file is accepted
 unfoldable pub checkCall : ℕ → ℕ → ℕ → ℕ → List ℕ → Said Refusal ℕ
 checkCall a d rows kind s = do
   k ← kindSaid (kindOf kind)
-  accepted (checkFile (layoutBy a d rows k) s)
+  answerSaid (checkFile (layoutBy a d rows k) s)
   says 0
 
 -- what the showing of a row says
 abbrev pub rowSaid : RowAnswer → Said Refusal Row
 rowSaid r = do
-  accepted (r .answer)
+  answerSaid (r .answer)
   says (r .row)
 
 -- zl_row: the places of row n; no room last of all

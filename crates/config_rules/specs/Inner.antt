@@ -28,6 +28,7 @@ use Rattle.config_rules.specs.declared.Config.{Config}
 use Rattle.config_rules.specs.declared.Rule.{Rule}
 use Rattle.config_rules.specs.declared.Rule.the-variants.{Station, Counts, Analog, Status, Frequency, RateCount, Rate, First, Trigger, KindWord, Multiplier, Codes, Quality, Done}
 use Rattle.config_rules.specs.declared.Taken.{Taken}
+use Rattle.config_rules.specs.Shown.{withLayout, withKind}
 
 -- the line after that of status channel i; where i is 0, the line before the first of them
 unfoldable pub afterStatus : ℕ → ℕ → Rule
@@ -42,23 +43,6 @@ unfoldable pub afterRate : ℕ → ℕ → Rule
 afterRate i rates = if ltb i (rates - 1) then Rate (i + 1) else First
 
 -- A configuration in which some values are replaced
--- the layout
-abbrev pub withLayout : Layout → Config → Config
-withLayout l c =
-    record {
-      layout = l;
-      rates = c .rates;
-      lasts = c .lasts;
-      first = c .first;
-      trigger = c .trigger;
-      pretrigger = c .pretrigger;
-      code = c .code;
-      x = c .x;
-      local = c .local;
-      quality = c .quality;
-      leap = c .leap;
-    }
-
 -- A and D
 unfoldable pub withCounts : ℕ → ℕ → Config → Config
 withCounts a d c = withLayout (record { analogs = a; statuses = d; rows = c .layout .rows; kind = c .layout .kind }) c
@@ -122,10 +106,6 @@ withFirst m c =
 unfoldable pub withTrigger : Moment → Span → Config → Config
 withTrigger m p c =
     record { layout = c .layout; rates = c .rates; lasts = c .lasts; first = c .first; trigger = m; pretrigger = p; code = c .code; x = c .x; local = c .local; quality = c .quality; leap = c .leap }
-
--- the kind
-unfoldable pub withKind : Kind → Config → Config
-withKind k c = withLayout (inKind k (c .layout)) c
 
 -- the time codes
 unfoldable pub withCodes : ℤ → Bool → ℤ → Config → Config

@@ -1,9 +1,12 @@
--- What a configuration shows before any line is read, and beside a refusal.
+-- What a configuration shows before any line is read, and beside a refusal; and what it shows with another layout or kind.
 use mathlib.Core.Bool.{false}
 use lib.IntN.{pos}
 use lib.ListN.{replicate}
 use Rattle.config_lines.specs.Answers.{noDate, noTime}
+use Rattle.model.specs.declared.Kind.{Kind}
 use Rattle.model.specs.declared.Kind.the-variants.{Ascii}
+use Rattle.model.specs.declared.Layout.{Layout}
+use Rattle.model.specs.Layouts.{inKind}
 use Rattle.config_rules.specs.declared.Moment.{Moment}
 use Rattle.config_rules.specs.declared.Config.{Config}
 
@@ -27,3 +30,24 @@ noConfig =
       quality = 0;
       leap = 0;
     }
+
+-- the same in another layout
+abbrev pub withLayout : Layout → Config → Config
+withLayout l c =
+    record {
+      layout = l;
+      rates = c .rates;
+      lasts = c .lasts;
+      first = c .first;
+      trigger = c .trigger;
+      pretrigger = c .pretrigger;
+      code = c .code;
+      x = c .x;
+      local = c .local;
+      quality = c .quality;
+      leap = c .leap;
+    }
+
+-- the same in another kind
+unfoldable pub withKind : Kind → Config → Config
+withKind k c = withLayout (inKind k (c .layout)) c

@@ -33,7 +33,7 @@ use Rattle.model.specs.declared.Refusal.{Refusal}
 use Rattle.model.specs.declared.Answer.the-variants.{No}
 use Rattle.model.specs.Kinds.{kindOf}
 use Rattle.model.specs.Layouts.{isSized, inKind}
-use Rattle.model.specs.Refusals.{refused, answerOf}
+use Rattle.model.specs.Refusals.{refused, answerOf, answerSaid}
 use Rattle.model.specs.Rows.{zeroRow}
 use Rattle.model.proofs.AnswerLaws.{no-told}
 use Rattle.config_rules.specs.declared.Config.{Config}
@@ -51,8 +51,9 @@ use Rattle.config_places.proofs.ConfigLaws.{config-places}
 use Rattle.row_places.proofs.RowLaws.{row-places, places-back}
 use Rattle.reasons.specs.Reasons.{reasonOf, textSaid, reasonSaid}
 use Rattle.answers.specs.declared.zl_answer.{«zl_answer»}
-use Rattle.answers.specs.Answers.{told, toldWritten, toldShown, kindSaid, layoutBy, accepted, placed}
-use Rattle.calls_config.specs.Calls.{configSaid, configCall}
+use Rattle.answers.specs.Answers.{told, toldWritten, toldShown, kindSaid, layoutBy, placed}
+use Rattle.config.specs.Said.{configSaid}
+use Rattle.calls_config.specs.Calls.{configCall}
 use Rattle.calls_data.specs.Calls.{checkCall, rowSaid, rowCall, rowAsked, writeCall}
 use Rattle.calls_data.specs.Inner.{rowIn, writeIn}
 use Rattle.calls_change.specs.Calls.{lengthCall, changeCall}
@@ -302,11 +303,11 @@ config-only s = go (saidOf (configuration (1, s))) (config-placed s)
     go (refuses r) p = p .0
 
 -- a check's refusal
-accepted-only : (l : Layout) (s : List ℕ) → RefusesOnly Placed (accepted (checkFile l s))
+accepted-only : (l : Layout) (s : List ℕ) → RefusesOnly Placed (answerSaid (checkFile l s))
 unfolding checkFile
 accepted-only l s = go (must (isSized l) (refused 10 0 0) >> fileFine l s) (check-only l s)
   where
-    go : (x : Said Refusal (Unit {0})) → RefusesOnly (PlacedTo 16) x → RefusesOnly Placed (accepted (answerOf x))
+    go : (x : Said Refusal (Unit {0})) → RefusesOnly (PlacedTo 16) x → RefusesOnly Placed (answerSaid (answerOf x))
     go (says u) p = tt
     go (refuses r) p = p .0
 
@@ -337,8 +338,8 @@ by-number kind f p = only-bind Placed (kindSaid (kindOf kind)) f (kind-only (kin
 check-call-only : (a d rows kind : ℕ) (s : List ℕ) → RefusesOnly Placed (checkCall a d rows kind s)
 unfolding checkCall
 check-call-only a d rows kind s =
-    by-number kind (λ k. accepted (checkFile (layoutBy a d rows k) s) >> says 0) (λ k.
-    only-then Placed (accepted (checkFile (layoutBy a d rows k) s)) (says 0) (accepted-only (layoutBy a d rows k) s) (λ e. tt))
+    by-number kind (λ k. answerSaid (checkFile (layoutBy a d rows k) s) >> says 0) (λ k.
+    only-then Placed (answerSaid (checkFile (layoutBy a d rows k) s)) (says 0) (accepted-only (layoutBy a d rows k) s) (λ e. tt))
 
 row-call-only : (a d rows kind : ℕ) (s : List ℕ) (n room : ℕ) → RefusesOnly Placed (rowCall a d rows kind s n room)
 unfolding rowCall rowIn
@@ -387,7 +388,7 @@ pub all-placed :
     × ((a d rows kind : ℕ) (s : List ℕ) (new room : ℕ) (r : Refusal) → changeCall a d rows kind s new room ≡ refuses r → Placed r)
 all-placed = (
   (λ s r e. only-given Placed (configSaid (readConfig s)) r (rw e) (config-only s)),
-  (λ l s r e. only-given Placed (accepted (checkFile l s)) r (rw e) (accepted-only l s)),
+  (λ l s r e. only-given Placed (answerSaid (checkFile l s)) r (rw e) (accepted-only l s)),
   (λ l s n r e. only-given (PlacedTo 16) (rowSaid (showRow l s n)) r (rw e) (show-only l s n) .0),
   (λ l n row room r e. only-given Placed (writeSaid l n row room) r e (write-only l n row room)),
   (λ l s k r e. only-given (PlacedTo 16) (bytesNeeded l s k) r e (needed-only l s k) .0),

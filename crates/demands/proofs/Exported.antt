@@ -24,7 +24,7 @@ use Rattle.model.specs.declared.Answer.{Answer}
 use Rattle.model.specs.declared.Answer.the-variants.{Yes, No}
 use Rattle.model.specs.Kinds.{kindOf}
 use Rattle.model.specs.Layouts.{Sized}
-use Rattle.model.specs.Refusals.{refused}
+use Rattle.model.specs.Refusals.{refused, answerSaid}
 use Rattle.config_rules.specs.declared.Config.{Config}
 use Rattle.config.specs.declared.ConfigAnswer.{ConfigAnswer}
 use Rattle.config.specs.Config.{readConfig}
@@ -32,8 +32,9 @@ use Rattle.data.specs.declared.RowAnswer.{RowAnswer}
 use Rattle.data.specs.Files.{rowAt, checkFile, rowAnswer, showRow}
 use Rattle.row_places.specs.Rows.{placesOf, rowPlaces}
 use Rattle.config_places.specs.Configs.{configPlaces}
-use Rattle.answers.specs.Answers.{kindSaid, layoutBy, accepted, placed}
-use Rattle.calls_config.specs.Calls.{configSaid, configCall}
+use Rattle.answers.specs.Answers.{kindSaid, layoutBy, placed}
+use Rattle.config.specs.Said.{configSaid}
+use Rattle.calls_config.specs.Calls.{configCall}
 use Rattle.calls_data.specs.Calls.{checkCall, rowSaid, rowCall}
 use Rattle.calls_data.specs.Inner.{rowIn}
 use Rattle.paper.specs.Configuration.{Configuration}
@@ -42,7 +43,7 @@ use Rattle.exact_config.proofs.ExactLaws.{config-exactly}
 use Rattle.exact_data.proofs.FileLaws.{data-exactly, row-shown, accepted-rows}
 
 -- a yes, and what stands beside it
-yes-said : {A : Type 0} (x : Answer) (a b : A) → (accepted x >> says a) ≡ says b → (x ≡ Yes) × (a ≡ b)
+yes-said : {A : Type 0} (x : Answer) (a b : A) → (answerSaid x >> says a) ≡ says b → (x ≡ Yes) × (a ≡ b)
 yes-said Yes a b e = (refl, cc)
 yes-said (No r) a b e = clash (cc)
 
@@ -84,7 +85,7 @@ module _ (a d rows kind : ℕ) (s : List ℕ) (bytes : every isByte s ≡ true) 
   file-to : checkCall a d rows kind s ≡ says 0 → (k : Kind) × (r : ℕ → Row) × FileHere k r
   unfolding checkCall
   file-to e =
-      let b = bind-told (kindSaid (kindOf kind)) (λ k. accepted (checkFile (layoutBy a d rows k) s) >> says 0) 0 e in
+      let b = bind-told (kindSaid (kindOf kind)) (λ k. answerSaid (checkFile (layoutBy a d rows k) s) >> says 0) 0 e in
       let l = layoutBy a d rows (b .0) in
       let c = yes-said (checkFile l s) 0 0 (b .2) .0 in
       let t = accepted-rows l s bytes c in

@@ -1,15 +1,6 @@
--- NOTHING TO BELIEVE HERE: what a function says that puts one piece of text after another, and the room that it needs. The law `put-all-of` (proofs/Laws.antt) says what was put when all is.
-use mathlib.Core.Path.{_≡_}
-use mathlib.Core.List.{List, _++_}
+-- NOTHING TO BELIEVE HERE: the room that a line of a listing needs.
 use Prim.Native.Nat.{ℕ, _+_, _*_}
-use lib.ListN.{length, take, drop}
 use Rattle.model.specs.declared.Layout.{Layout}
-
--- `text` was put after the first n bytes of `old`: so `new` begins, up to r; what follows stays
-pub record Put (old : List ℕ) (n : ℕ) (text new : List ℕ) (r : ℕ) : Type 0 where
-  pub end : r ≡ n + length text
-  pub bytes : take r new ≡ take n old ++ text
-  pub rest : drop r new ≡ drop r old
 
 -- the most characters that a row's line can have: 10 for each of number and time, 12 for a sample, 2 for a status, a space and a line end
 abbrev pub lineMost : Layout → ℕ

@@ -6,18 +6,11 @@ use Rattle.ground.specs.Choice.{if_then_else_}
 use Rattle.ground.specs.Tables.{cat}
 use Rattle.ground.specs.Quoted.{quoted}
 use Rattle.numerals.specs.Decimals.{decimal, plain}
-use Rattle.model.specs.declared.Kind.{Kind}
-use Rattle.model.specs.declared.Kind.the-variants.{Ascii, Binary, Binary32}
 use Rattle.model.specs.declared.Layout.{Layout}
 use Rattle.model.specs.declared.Row.{Row}
 use Rattle.model.specs.declared.Refusal.{Refusal}
+use Rattle.model.specs.Kinds.{kindName}
 use Rattle.model.specs.Rows.{sampleAt, sampleValue, statusAt, statusValue}
-
--- a kind, as it is printed
-unfoldable pub kindName : Kind → List ℕ
-kindName Ascii = quoted "ASCII"
-kindName Binary = quoted "binary"
-kindName Binary32 = quoted "binary32"
 
 -- a count after its name
 abbrev pub named : List ℕ → ℕ → List ℕ

@@ -2,7 +2,6 @@
 // Each function puts its text after the first n bytes of its room, just as the definition of specs/ has it, and tells where it ends; what follows stays.
 // A row's channels are asked for by numbers of their own sort.
 use model::AnalogNo;
-use model::Kind;
 use model::Layout;
 use model::Refusal;
 use model::Row;
@@ -16,23 +15,9 @@ ghost use lib.ListN.{length};
 ghost use Rattle.numerals.specs.Decimals.{decimal, plain};
 ghost use Rattle.model.specs.Layouts.{Sized};
 ghost use Rattle.model.specs.Rows.{sampleAt, sampleValue, statusAt, statusValue};
-ghost use Rattle.list_lines.specs.Lines.{kindName, named, headLine, spacedSamples, spacedStatus, spacedStatuses, rowLine, refusalLine};
-ghost use Rattle.list_lines.specs.Inner.{Put, lineMost};
-
-// The bytes of s are put after the first n.
-pub fn put_all(out: &mut [u8], n: usize, s: &[u8]) -> usize
-    requires { ⌜ n + length (now s) ≤ length (now out) ⌝ }
-    ensures { λ r. ⌜ Put (now (out .entry)) n (now (s .entry)) (now (out .exit)) r ⌝ }
-{
-    let mut i = 0;
-    let mut to = n;
-    while i < s.len() {
-        out[to] = s[i];
-        to += 1;
-        i += 1;
-    }
-    to
-}
+ghost use Rattle.pieces.specs.Inner.{Put};
+ghost use Rattle.list_lines.specs.Lines.{named, headLine, spacedSamples, spacedStatus, spacedStatuses, rowLine, refusalLine};
+ghost use Rattle.list_lines.specs.Inner.{lineMost};
 
 // The plain decimal of v, at most 10 characters.
 fn put_count(out: &mut [u8], n: usize, v: u32) -> usize
@@ -52,21 +37,8 @@ fn put_named(out: &mut [u8], n: usize, name: &[u8], v: u32) -> usize
     ensures { λ r. ⌜ Put (now (out .entry)) n (named (now (name .entry)) v) (now (out .exit)) r ⌝ }
     ensures { λ r. ⌜ r ≤ n + length (now (name .entry)) + 10 ⌝ }
 {
-    let m = put_all(out, n, name);
+    let m = pieces::put_all(out, n, name);
     put_count(out, m, v)
-}
-
-// The name of a kind.
-fn put_kind(out: &mut [u8], n: usize, kind: Kind) -> usize
-    requires { ⌜ n + 8 ≤ length (now out) ⌝ }
-    ensures { λ r. ⌜ Put (now (out .entry)) n (kindName kind) (now (out .exit)) r ⌝ }
-    ensures { λ r. ⌜ r ≤ n + 8 ⌝ }
-{
-    match kind {
-        Kind::Ascii => put_all(out, n, b"ASCII"),
-        Kind::Binary => put_all(out, n, b"binary"),
-        Kind::Binary32 => put_all(out, n, b"binary32"),
-    }
 }
 
 // The first line of a listing.
@@ -79,9 +51,9 @@ pub fn put_head_line(out: &mut [u8], layout: Layout) -> usize
     let a = put_named(out, 0, b"A ", layout.analogs);
     let d = put_named(out, a, b" D ", layout.statuses);
     let rows = put_named(out, d, b" rows ", layout.rows);
-    let space = put_all(out, rows, b" ");
-    let word = put_kind(out, space, kind);
-    put_all(out, word, b"\n")
+    let space = pieces::put_all(out, rows, b" ");
+    let word = pieces::put_kind(out, space, kind);
+    pieces::put_all(out, word, b"\n")
 }
 
 // The sample of an analog channel, which a row has.
@@ -102,7 +74,7 @@ fn put_sample(out: &mut [u8], n: usize, z: i32) -> usize
     ensures { λ r. ⌜ r ≤ n + 12 ⌝ }
 {
     let wide = words::widened(z);
-    let m = put_all(out, n, b" ");
+    let m = pieces::put_all(out, n, b" ");
     let to = m + numerals::plain_length(wide);
     numerals::put_plain(&mut out[m..to], wide);
     to
@@ -140,9 +112,9 @@ fn put_status(out: &mut [u8], n: usize, on: bool) -> usize
     ensures { λ r. ⌜ Put (now (out .entry)) n (spacedStatus on) (now (out .exit)) r ⌝ }
 {
     if on {
-        return put_all(out, n, b" 1");
+        return pieces::put_all(out, n, b" 1");
     }
-    put_all(out, n, b" 0")
+    pieces::put_all(out, n, b" 0")
 }
 
 // The statuses of the first d channels.
@@ -170,7 +142,7 @@ pub fn put_row_line(out: &mut [u8], at: usize, layout: Layout, n: u32, row: Row)
     let time = put_named(out, number, b" ", row.time);
     let samples = put_samples(out, time, row, layout.analogs as u16);
     let statuses = put_statuses(out, samples, row, layout.statuses as u16);
-    put_all(out, statuses, b"\n")
+    pieces::put_all(out, statuses, b"\n")
 }
 
 // The line of a refusal, after what it speaks of.
@@ -181,5 +153,5 @@ pub fn put_refusal_line(out: &mut [u8], what: &[u8], refusal: Refusal) -> usize
     let number = put_named(out, 0, what, refusal.number);
     let place = put_named(out, number, b" ", refusal.at);
     let field = put_named(out, place, b" ", refusal.field);
-    put_all(out, field, b"\n")
+    pieces::put_all(out, field, b"\n")
 }

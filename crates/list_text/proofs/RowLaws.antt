@@ -32,7 +32,7 @@ use Rattle.rows.specs.Inner.{takenHere, restOf, HasRow, fineHere, checkHere, st
 use Rattle.rows.proofs.WalkLaws.{rest-none, rest-next, fine-walk, fine-taken, here-within, has-row}
 use Rattle.list_lines.specs.Lines.{rowLine}
 use Rattle.list_lines.specs.Inner.{lineMost}
-use Rattle.list_lines.proofs.Laws.{cat-next}
+use Rattle.pieces.proofs.Laws.{cat-next}
 use Rattle.list_text.specs.Listing.{rowsText}
 
 pub rows-next : (l : Layout) (s : List ℕ) (i : ℕ) → rowsText l s i ++ rowLine l (i + 1) (rowAt l s i) ≡ rowsText l s (i + 1)

@@ -11,7 +11,8 @@ ghost use Rattle.model.specs.Layouts.{Sized};
 ghost use Rattle.data.specs.Files.{fileFine};
 ghost use Rattle.rows.specs.Inner.{rowHere, HasRow};
 ghost use Rattle.list_lines.specs.Lines.{rowLine};
-ghost use Rattle.list_lines.specs.Inner.{Put, lineMost};
+ghost use Rattle.pieces.specs.Inner.{Put};
+ghost use Rattle.list_lines.specs.Inner.{lineMost};
 ghost use Rattle.list_text.specs.Listing.{rowsText, dataListing, listing, listedTo};
 
 // Room for the text of any two files.
@@ -53,7 +54,7 @@ fn put_data_listing(out: &mut [u8], layout: Layout, dat: &[u8]) -> usize
     ensures { λ r. ⌜ Put (now (out .entry)) 0 (dataListing layout (now (dat .entry))) (now (out .exit)) r ⌝ }
 {
     if LARGEST < dat.len() {
-        return list_lines::put_all(out, 0, b"no dat size\n");
+        return pieces::put_all(out, 0, b"no dat size\n");
     }
     let answer = data::check(layout, dat);
     match answer {

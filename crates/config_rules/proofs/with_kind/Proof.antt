@@ -1,6 +1,6 @@
 -- `with_kind` meets its contract.
 use borrow.Author.Needs.{needs}
-use Rattle.config_rules.specs.Inner.{withKind}
+use Rattle.config_rules.specs.Shown.{withKind}
 use Rattle.config_rules.proofs.with_kind.Statement.{statement}
 use Rattle.config_rules.proofs.with_kind.Tie as tie
 

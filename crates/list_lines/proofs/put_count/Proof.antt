@@ -6,7 +6,7 @@ use borrow.Author.Needs.{needs}
 use lib.ListN.{length}
 use Rattle.numerals.specs.Decimals.{decimal}
 use Rattle.ascii_plain.proofs.LengthLaws.{decimal-short}
-use Rattle.list_lines.proofs.Laws.{put-part}
+use Rattle.pieces.proofs.Laws.{put-part}
 use Rattle.list_lines.proofs.put_count.Statement.{statement}
 use Rattle.list_lines.proofs.put_count.Tie as tie
 

@@ -2,7 +2,7 @@
 use native.Mathlib.Omega.{arith}
 use borrow.Author.Needs.{needs}
 use Rattle.list_lines.specs.Lines.{headLine}
-use Rattle.list_lines.proofs.Laws.{put-then}
+use Rattle.pieces.proofs.Laws.{put-then, kind-short}
 use Rattle.list_lines.proofs.put_head_line.Statement.{statement}
 use Rattle.list_lines.proofs.put_head_line.Tie as tie
 
@@ -31,7 +31,7 @@ put-all-requires : tie.Need-put-all-requires
 put-all-requires c κs = search needs
 
 put-kind-requires : tie.Need-put-kind-requires
-put-kind-requires c κs = search needs
+put-kind-requires c κs = omega (arith, kind-short (c .before .before .before .before .before .before .before .before .before .before .before .before .before .before .before .before .before .before .before .before .before .before .args .layout .kind), c .before .before .before .put-all .ensures .end, c .before .before .before .before .before .before .before .before .before .before .before .before .before .before .before .before .before .before .put-named .ensures .1, c .before .before .before .before .before .before .before .before .before .before .before .before .before .put-named2 .ensures .1, c .before .before .before .before .before .before .before .before .put-named3 .ensures .1)
 
 slice-aggregate-put-all-2 : tie.Need-slice-aggregate-put-all-2
 slice-aggregate-put-all-2 c = search needs

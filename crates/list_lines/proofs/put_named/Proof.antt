@@ -1,7 +1,7 @@
 -- `put_named` meets its contract: the name, and then the decimal.
 use native.Mathlib.Omega.{arith}
 use borrow.Author.Needs.{needs}
-use Rattle.list_lines.proofs.Laws.{put-then}
+use Rattle.pieces.proofs.Laws.{put-then}
 use Rattle.list_lines.proofs.put_named.Statement.{statement}
 use Rattle.list_lines.proofs.put_named.Tie as tie
 

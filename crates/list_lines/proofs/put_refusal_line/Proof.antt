@@ -1,7 +1,7 @@
 -- `put_refusal_line` meets its contract: the pieces of the line, one after the other.
 use borrow.Author.Needs.{needs}
 use Rattle.list_lines.specs.Lines.{refusalLine}
-use Rattle.list_lines.proofs.Laws.{put-then}
+use Rattle.pieces.proofs.Laws.{put-then}
 use Rattle.list_lines.proofs.put_refusal_line.Statement.{statement}
 use Rattle.list_lines.proofs.put_refusal_line.Tie as tie
 

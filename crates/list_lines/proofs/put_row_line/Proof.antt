@@ -2,7 +2,7 @@
 use native.Mathlib.Omega.{arith}
 use borrow.Author.Needs.{needs}
 use Rattle.list_lines.specs.Lines.{rowLine}
-use Rattle.list_lines.proofs.Laws.{put-then}
+use Rattle.pieces.proofs.Laws.{put-then}
 use Rattle.list_lines.proofs.put_row_line.Statement.{statement}
 use Rattle.list_lines.proofs.put_row_line.Tie as tie
 

@@ -10,7 +10,7 @@ use mir.Val.{toZ, ofZ}
 use Rattle.words.proofs.MachineLaws.{widened-back}
 use Rattle.numerals.specs.Decimals.{plain}
 use Rattle.ascii_plain.proofs.LengthLaws.{plain-short}
-use Rattle.list_lines.proofs.Laws.{put-then, put-part}
+use Rattle.pieces.proofs.Laws.{put-then, put-part}
 use Rattle.list_lines.proofs.put_sample.Statement.{statement}
 use Rattle.list_lines.proofs.put_sample.Tie as tie
 

@@ -8,8 +8,9 @@ use mir.Syntax.{w32}
 use mir.Val.{toZ, ofZ}
 use Rattle.model.specs.Rows.{sampleAt, sampleValue}
 use Rattle.list_lines.specs.Lines.{spacedSamples}
-use Rattle.list_lines.specs.Inner.{Put}
-use Rattle.list_lines.proofs.Laws.{put-none, put-then, put-as, spaced-samples-next}
+use Rattle.pieces.specs.Inner.{Put}
+use Rattle.pieces.proofs.Laws.{put-none, put-then, put-as}
+use Rattle.list_lines.proofs.Laws.{spaced-samples-next}
 use Rattle.list_lines.proofs.put_samples.Statement.{statement}
 use Rattle.list_lines.proofs.put_samples.Tie as tie
 

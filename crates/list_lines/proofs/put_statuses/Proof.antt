@@ -5,8 +5,9 @@ use native.Mathlib.Omega.{arith}
 use borrow.Author.Needs.{needs}
 use lib.ListN.{length}
 use Rattle.list_lines.specs.Lines.{spacedStatuses}
-use Rattle.list_lines.specs.Inner.{Put}
-use Rattle.list_lines.proofs.Laws.{put-none, put-then, put-as, spaced-statuses-next, status-long}
+use Rattle.pieces.specs.Inner.{Put}
+use Rattle.pieces.proofs.Laws.{put-none, put-then, put-as}
+use Rattle.list_lines.proofs.Laws.{spaced-statuses-next, status-long}
 use Rattle.list_lines.proofs.put_statuses.Statement.{statement}
 use Rattle.list_lines.proofs.put_statuses.Tie as tie
 

@@ -7,7 +7,7 @@ use lib.ListN.{length}
 use Rattle.model.specs.declared.Answer.the-variants.{Yes, No}
 use Rattle.data.specs.Files.{checkFile}
 use Rattle.list_text.specs.Listing.{dataListing}
-use Rattle.list_lines.proofs.Laws.{put-then}
+use Rattle.pieces.proofs.Laws.{put-then}
 use Rattle.data.proofs.Laws.{accepted-fine}
 use Rattle.list_text.proofs.put_data_listing.Statement.{statement}
 use Rattle.list_text.proofs.put_data_listing.Tie as tie

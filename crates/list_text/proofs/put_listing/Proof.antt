@@ -7,7 +7,7 @@ use Rattle.config.specs.declared.ConfigAnswer.{ConfigAnswer}
 use Rattle.config.specs.Config.{readConfig}
 use Rattle.config.proofs.SizedLaws.{accepted-sized}
 use Rattle.list_text.specs.Listing.{listing, listedTo}
-use Rattle.list_lines.proofs.Laws.{put-all-of}
+use Rattle.pieces.proofs.Laws.{put-all-of}
 use Rattle.list_text.proofs.put_listing.Statement.{statement}
 use Rattle.list_text.proofs.put_listing.Tie as tie
 

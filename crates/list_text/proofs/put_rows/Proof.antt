@@ -9,9 +9,10 @@ use Rattle.ground.proofs.Walk.{rest}
 use Rattle.data.specs.Files.{rowAt}
 use Rattle.rows.specs.Inner.{takenHere, rowHere, HasRow}
 use Rattle.rows.proofs.WalkLaws.{row-here}
-use Rattle.list_lines.specs.Inner.{Put, lineMost}
+use Rattle.pieces.specs.Inner.{Put}
+use Rattle.list_lines.specs.Inner.{lineMost}
 use Rattle.list_text.specs.Listing.{rowsText}
-use Rattle.list_lines.proofs.Laws.{put-none, put-then, put-as}
+use Rattle.pieces.proofs.Laws.{put-none, put-then, put-as}
 use Rattle.list_text.proofs.RowLaws.{rows-next, Walked, walked-start, walked-row, walked-next}
 use Rattle.list_text.proofs.put_rows.Statement.{statement}
 use Rattle.list_text.proofs.put_rows.Tie as tie

@@ -7,9 +7,9 @@ use native.Mathlib.Omega.{arith}
 use borrow.Author.Needs.{needs}
 use lib.ListN.{length, take, drop, getD, length-set}
 use lib.Seq.{take-suc, take-suc-set, take-length, drop-set-lt}
-use Rattle.list_lines.proofs.Laws.{same-on}
-use Rattle.list_lines.proofs.put_all.Statement.{statement}
-use Rattle.list_lines.proofs.put_all.Tie as tie
+use Rattle.pieces.proofs.Laws.{same-on}
+use Rattle.pieces.proofs.put_all.Statement.{statement}
+use Rattle.pieces.proofs.put_all.Tie as tie
 
 abbrev Inv-loop : tie.InvT-loop
 Inv-loop out₀ n s i₀ to₀ out i to = (i ≤ length s) × (to ≡ n + i) × (length out ≡ length out₀) × (take to out ≡ take n out₀ ++ take i s) × (drop to out ≡ drop to out₀)

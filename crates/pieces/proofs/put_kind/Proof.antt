@@ -1,9 +1,9 @@
 -- `put_kind` meets its contract: a word for each kind.
 use native.Mathlib.Omega.{arith}
 use borrow.Author.Needs.{needs}
-use Rattle.list_lines.specs.Lines.{kindName}
-use Rattle.list_lines.proofs.put_kind.Statement.{statement}
-use Rattle.list_lines.proofs.put_kind.Tie as tie
+use Rattle.model.specs.Kinds.{kindName}
+use Rattle.pieces.proofs.put_kind.Statement.{statement}
+use Rattle.pieces.proofs.put_kind.Tie as tie
 
 enum-told : tie.Need-enum-told
 enum-told c = search needs
@@ -12,7 +12,8 @@ slice-aggregate-put-all : tie.Need-slice-aggregate-put-all
 slice-aggregate-put-all c = search needs
 
 put-all-requires : tie.Need-put-all-requires
-put-all-requires c κs = search needs
+unfolding kindName
+put-all-requires c κs = rw (c .before .before .enum-told .given .1) at (c .before .before .before .before .before .pre)
 
 enum-told-2 : tie.Need-enum-told-2
 enum-told-2 c = search needs
@@ -21,7 +22,8 @@ slice-aggregate-put-all-2 : tie.Need-slice-aggregate-put-all-2
 slice-aggregate-put-all-2 c = search needs
 
 put-all-requires-2 : tie.Need-put-all-requires-2
-put-all-requires-2 c κs = search needs
+unfolding kindName
+put-all-requires-2 c κs = rw (c .before .before .enum-told2 .given .1) at (c .before .before .before .before .before .pre)
 
 enum-told-3 : tie.Need-enum-told-3
 enum-told-3 c = search needs
@@ -30,7 +32,8 @@ slice-aggregate-put-all-3 : tie.Need-slice-aggregate-put-all-3
 slice-aggregate-put-all-3 c = search needs
 
 put-all-requires-3 : tie.Need-put-all-requires-3
-put-all-requires-3 c κs = search needs
+unfolding kindName
+put-all-requires-3 c κs = rw (c .before .before .enum-told3 .given .1) at (c .before .before .before .before .before .pre)
 
 same-length : tie.Need-same-length
 same-length c = search needs

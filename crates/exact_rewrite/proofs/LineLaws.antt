@@ -1,0 +1,155 @@
+-- A line as it is written is what it was: the record of a line holds of it.
+--     fields-written             its fields are those of the line, each as it is written
+--     line-short                 a line but the kind's is no longer than it was
+--     station-written to quality-written     each line of a configuration, and the kind's line in another kind
+-- Assumes nothing.
+use mathlib.Core.Path.{_≡_, refl, sym, ap, _∙_}
+use mathlib.Core.Logic.{_⊎_, inl, inr}
+use mathlib.Core.Bool.{Bool, true}
+use mathlib.Core.List.{List, []}
+use Prim.Native.Nat.{ℕ, _+_, _-_, _≤_}
+use native.Mathlib.Omega.{arith}
+use lib.Dec.{lit≤}
+use lib.IntN.{ℤ}
+use Rattle.ground.specs.Tables.{every}
+use Rattle.text.specs.Fields.{commas, fieldCount, fieldAt}
+use Rattle.reals.specs.declared.Real.{Real}
+use Rattle.reals.specs.declared.Real.the-variants as real
+use Rattle.model.specs.declared.Kind.{Kind}
+use Rattle.model.specs.declared.Kind.the-variants.{Ascii, Binary, Binary32}
+use Rattle.model.specs.Kinds.{kindName}
+use Rattle.paper.specs.Fields.{isBetween, AnyReal}
+use Rattle.paper.specs.Lines.{Line, Fields, ChannelsLine, ChannelNames, AnalogLine, StatusLine, FrequencyLine, RatesLine, RateLine, KindLine, MultiplierLine, CodesLine}
+use Rattle.exact.proofs.CommaLaws.{fields-exactly}
+use Rattle.rewrite_lines.specs.declared.LineSort.{LineSort}
+use Rattle.rewrite_lines.specs.declared.LineSort.the-variants.{Kept, Numbers, Analog, Status, Word}
+use Rattle.rewrite_lines.specs.Lines.{isNumber, bare, fieldText, fieldsText, lineText}
+use Rattle.rewrite_lines.proofs.FieldLaws.{count-text, field-text, bytes-text}
+use Rattle.exact_rewrite.proofs.FieldLaws.{count-bare, in-bare, lettered-bare, real-bare, any-bare, limits-bare, code-bare, local-bare}
+
+pub fields-written : (sort : LineSort) (n : ℕ) (f : ℕ → List ℕ) (l : List ℕ) → 1 ≤ n → Fields n f l → Fields n (λ i. fieldText (isNumber sort i) (f i)) (fieldsText sort l)
+unfolding fieldCount
+fields-written sort n f l h w =
+    let (count, each) = fields-exactly n f l h .0 w in
+    fields-exactly n (λ i. fieldText (isNumber sort i) (f i)) (fieldsText sort l) h .1 (
+      count-text sort l ∙ count,
+      λ i p q.
+          let e : i - 1 + 1 ≡ i = omega arith in
+          let t : fieldAt i (fieldsText sort l) ≡ fieldText (isNumber sort i) (fieldAt i l) = rw e at (field-text sort l (i - 1) (omega arith)) in
+          t ∙ ap (fieldText (isNumber sort i)) (each i p q),
+    )
+
+-- a line by its sort
+module _ {P : List ℕ → Type 0} where
+  fields-line : (k : Kind) (sort : LineSort) (l : List ℕ) → lineText k sort l ≡ fieldsText sort l → (P l → P (fieldsText sort l)) → Line P l → Line P (lineText k sort l)
+  fields-line k sort l e is w = rw e (record { bytes = bytes-text sort l (w .bytes); is = is (w .is) })
+
+  pub kept-written : (k : Kind) (l : List ℕ) → Line P l → Line P (lineText k Kept l)
+  unfolding lineText
+  kept-written k l w = w
+
+  numbers-line : (k : Kind) (l : List ℕ) → (P l → P (fieldsText Numbers l)) → Line P l → Line P (lineText k Numbers l)
+  unfolding lineText
+  numbers-line k l = fields-line k Numbers l refl
+
+pub channels-written : (k : Kind) (a d : ℕ) (l : List ℕ) → Line (ChannelsLine a d) l → Line (ChannelsLine a d) (lineText k Numbers l)
+unfolding isNumber
+channels-written k a d l = numbers-line k l (λ w.
+    record {
+      f = λ i. fieldText (isNumber Numbers i) (w .f i);
+      fields = fields-written Numbers 3 (w .f) l (lit≤ tt) (w .fields);
+      total = in-bare 6 1 352 (a + d) (w .f 1) (w .total);
+      analogs = lettered-bare "A" 96 a (w .f 2) (w .analogs);
+      statuses = lettered-bare "D" 256 d (w .f 3) (w .statuses);
+    })
+
+pub analog-written : (k : Kind) (i : ℕ) (l : List ℕ) → Line (AnalogLine i) l → Line (AnalogLine i) (lineText k Analog l)
+unfolding isNumber lineText
+analog-written k i l = fields-line k Analog l refl (λ w.
+    record {
+      f = λ j. fieldText (isNumber Analog j) (w .f j);
+      fields = fields-written Analog 13 (w .f) l (lit≤ tt) (w .fields);
+      names = record { index = count-bare 6 i (w .f 1) (w .names .index); name = w .names .name; phase = w .names .phase; circuit = w .names .circuit };
+      unit = w .unit;
+      a = any-bare (w .f 6) (w .a);
+      b = any-bare (w .f 7) (w .b);
+      skew = any-bare (w .f 8) (w .skew);
+      limits = limits-bare (w .f 9) (w .f 10) (w .limits);
+      primary = any-bare (w .f 11) (w .primary);
+      secondary = any-bare (w .f 12) (w .secondary);
+      side = w .side;
+    })
+
+pub status-written : (k : Kind) (i : ℕ) (l : List ℕ) → Line (StatusLine i) l → Line (StatusLine i) (lineText k Status l)
+unfolding isNumber lineText
+status-written k i l = fields-line k Status l refl (λ w.
+    record {
+      f = λ j. fieldText (isNumber Status j) (w .f j);
+      fields = fields-written Status 5 (w .f) l (lit≤ tt) (w .fields);
+      names = record { index = count-bare 6 i (w .f 1) (w .names .index); name = w .names .name; phase = w .names .phase; circuit = w .names .circuit };
+      normal = w .normal;
+    })
+
+-- empty, or a real
+empty-or-real : (f : List ℕ) → (f ≡ []) ⊎ AnyReal f → (bare f ≡ []) ⊎ AnyReal (bare f)
+empty-or-real f (inl e) = inl (ap bare e)
+empty-or-real f (inr w) = inr (any-bare f w)
+
+pub frequency-written : (k : Kind) (l : List ℕ) → Line FrequencyLine l → Line FrequencyLine (lineText k Numbers l)
+unfolding isNumber
+frequency-written k l = numbers-line k l (λ w.
+    record {
+      f = λ i. fieldText (isNumber Numbers i) (w .f i);
+      fields = fields-written Numbers 1 (w .f) l (lit≤ tt) (w .fields);
+      frequency = empty-or-real (w .f 1) (w .frequency);
+    })
+
+pub rates-written : (k : Kind) (n : ℕ) (l : List ℕ) → Line (RatesLine n) l → Line (RatesLine n) (lineText k Numbers l)
+unfolding isNumber
+rates-written k n l = numbers-line k l (λ w.
+    record {
+      f = λ i. fieldText (isNumber Numbers i) (w .f i);
+      fields = fields-written Numbers 1 (w .f) l (lit≤ tt) (w .fields);
+      rates = in-bare 3 0 8 n (w .f 1) (w .rates);
+    })
+
+pub rate-written : (k : Kind) (sign : Real) (before last : ℕ) (l : List ℕ) → Line (RateLine sign before last) l → Line (RateLine sign before last) (lineText k Numbers l)
+unfolding isNumber
+rate-written k sign before last l = numbers-line k l (λ w.
+    record {
+      f = λ i. fieldText (isNumber Numbers i) (w .f i);
+      fields = fields-written Numbers 2 (w .f) l (lit≤ tt) (w .fields);
+      rate = real-bare sign (w .f 1) (w .rate);
+      row = in-bare 10 1 1000000 last (w .f 2) (w .row);
+      rises = w .rises;
+    })
+
+pub multiplier-written : (k : Kind) (l : List ℕ) → Line MultiplierLine l → Line MultiplierLine (lineText k Numbers l)
+unfolding isNumber
+multiplier-written k l = numbers-line k l (λ w.
+    record {
+      f = λ i. fieldText (isNumber Numbers i) (w .f i);
+      fields = fields-written Numbers 1 (w .f) l (lit≤ tt) (w .fields);
+      multiplier = real-bare real.Above (w .f 1) (w .multiplier);
+    })
+
+pub codes-written : (k : Kind) (z w : ℤ) (x : Bool) (l : List ℕ) → Line (CodesLine z w x) l → Line (CodesLine z w x) (lineText k Numbers l)
+unfolding isNumber
+codes-written k z w x l = numbers-line k l (λ c.
+    record {
+      f = λ i. fieldText (isNumber Numbers i) (c .f i);
+      fields = fields-written Numbers 2 (c .f) l (lit≤ tt) (c .fields);
+      time = code-bare z (c .f 1) (c .time);
+      place = local-bare w x (c .f 2) (c .place);
+    })
+
+-- the kind's line in another kind: its word
+kind-line : (k : Kind) → Line (KindLine k) (kindName k)
+unfolding kindName
+kind-line Ascii = record { bytes = refl; is = record { f = λ i. kindName Ascii; fields = record { joined = refl; apart = λ i p q. refl }; kind = refl } }
+kind-line Binary = record { bytes = refl; is = record { f = λ i. kindName Binary; fields = record { joined = refl; apart = λ i p q. refl }; kind = refl } }
+kind-line Binary32 = record { bytes = refl; is = record { f = λ i. kindName Binary32; fields = record { joined = refl; apart = λ i p q. refl }; kind = refl } }
+
+pub kind-written : (k : Kind) (l : List ℕ) → Line (KindLine k) (lineText k Word l)
+unfolding lineText
+kind-written k l = kind-line k

@@ -1,0 +1,65 @@
+-- A configuration written again in a kind: the kind's word, numbers and codes without leading spaces, all else as it stands, CR LF on each line.
+use mathlib.Core.List.{List, [], _∷_, _++_}
+use Prim.Native.Nat.{ℕ, _+_, max}
+use lib.Dec.{leb}
+use lib.ListN.{length, replicate, take, drop}
+use Rattle.ground.specs.Said.{Said, says, _>>=_, _>>_, must}
+use Rattle.text.specs.declared.Scanned.{Scanned}
+use Rattle.text.specs.declared.Scanned.the-variants.{Line, Ends, Bad}
+use Rattle.text.specs.Lines.{scanLastLine}
+use Rattle.model.specs.declared.Kind.{Kind}
+use Rattle.model.specs.declared.Refusal.{Refusal}
+use Rattle.model.specs.Refusals.{refused}
+use Rattle.config_rules.specs.declared.Config.{Config}
+use Rattle.config.specs.Config.{readConfig}
+use Rattle.config.specs.Said.{configSaid}
+use Rattle.rewrite_lines.specs.declared.LineSort.{LineSort}
+use Rattle.rewrite_lines.specs.declared.LineSort.the-variants.{Kept, Numbers, Analog, Status, Word}
+use Rattle.rewrite_lines.specs.Lines.{lineText}
+use Rattle.rewrite.specs.declared.Cut.{Cut}
+
+-- the two dates, the kind, the time multiplier, the time codes, the time quality
+abbrev pub lastSorts : List LineSort
+lastSorts = Kept ∷ Kept ∷ Word ∷ Numbers ∷ Numbers ∷ Kept ∷ []
+
+-- what is done with each line: the station; TT, A and D; the analog channels; the status channels; the line frequency; the number of rates, and a line for each; the last lines
+unfoldable pub sorts : Config → List LineSort
+sorts c =
+    Kept ∷ Numbers ∷
+    (replicate (c .layout .analogs) Analog
+    ++ (replicate (c .layout .statuses) Status
+    ++ (Numbers ∷ Numbers ∷
+    (replicate (max 1 (c .rates)) Numbers
+    ++ lastSorts))))
+
+-- a line that was scanned: its length, and what it takes with its end
+abbrev pub cutOf : Scanned → Cut
+cutOf (Line len taken) = record { len = len; taken = taken }
+cutOf Ends = record { len = 0; taken = 0 }
+cutOf Bad = record { len = 0; taken = 0 }
+
+-- the line with which s begins; any line, since where a line ends with CR LF it does not matter that the last one need not
+unfoldable pub cutLine : List ℕ → Cut
+cutLine s = cutOf (scanLastLine (length s) s)
+
+-- lines of these sorts, with which s begins, each written anew by its sort, with CR LF
+unfoldable pub linesText : (LineSort → List ℕ → List ℕ) → List LineSort → List ℕ → List ℕ
+linesText anew [] s = []
+linesText anew (sort ∷ more) s = anew sort (take (cutLine s .len) s) ++ (13 ∷ 10 ∷ linesText anew more (drop (cutLine s .taken) s))
+
+-- the configuration as it is written
+unfoldable pub rewritten : Config → Kind → List ℕ → List ℕ
+rewritten c k s = linesText (lineText k) (sorts c) s
+
+-- what is to be written: 1 where it is longer than a configuration may be, then 17 where it is longer than the room
+unfoldable pub resultSaid : List ℕ → ℕ → Said Refusal (List ℕ)
+resultSaid new room = do
+  must (leb (length new) 65536) (refused 1 0 0)
+  must (leb (length new) room) (refused 17 0 0)
+  says new
+
+-- the bytes that are written: the reader's refusals first
+unfoldable pub rewriteSaid : List ℕ → Kind → ℕ → Said Refusal (List ℕ)
+rewriteSaid s k room = do
+  c ← configSaid (readConfig s)
+  resultSaid (rewritten c k s) room

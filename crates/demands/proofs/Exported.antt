@@ -37,18 +37,12 @@ use Rattle.config.specs.Said.{configSaid}
 use Rattle.calls_config.specs.Calls.{configCall}
 use Rattle.calls_data.specs.Calls.{checkCall, rowSaid, rowCall}
 use Rattle.calls_data.specs.Inner.{rowIn}
+use Rattle.model.proofs.AnswerLaws.{yes-said}
 use Rattle.paper.specs.Configuration.{Configuration}
 use Rattle.paper.specs.Data.{DataFile}
+use Rattle.config.proofs.SaidLaws.{config-said}
 use Rattle.exact_config.proofs.ExactLaws.{config-exactly}
 use Rattle.exact_data.proofs.FileLaws.{data-exactly, row-shown, accepted-rows}
-
--- a yes, and what stands beside it
-yes-said : {A : Type 0} (x : Answer) (a b : A) → (answerSaid x >> says a) ≡ says b → (x ≡ Yes) × (a ≡ b)
-yes-said Yes a b e = (refl, cc)
-yes-said (No r) a b e = clash (cc)
-
-config-said : (a : ConfigAnswer) (c : Config) → configSaid a ≡ says c → a ≡ record { answer = Yes; config = c }
-config-said a c e = let w = yes-said (a .answer) (a .config) c e in rw (← w .0, ← w .1)
 
 row-said : (a : RowAnswer) (r : Row) → rowSaid a ≡ says r → a ≡ rowAnswer (says r)
 row-said a r e = let w = yes-said (a .answer) (a .row) r e in rw (← w .0, ← w .1)

@@ -29,12 +29,15 @@ use Rattle.rewrite_lines.proofs.FieldLaws.{bare-short}
 pub bare-fits : (f : List ℕ) (most : ℕ) → length f ≤ most → length (bare f) ≤ most
 bare-fits f most h = omega (arith, bare-short f)
 
+digits-bare : (most v : ℕ) (f : List ℕ) (w : CountField most v f) → bare f ≡ w .digits
+digits-bare most v f w = spaces-rest (w .leading) f (w .digits) (w .text) (digits-no-space (w .digits) (digits-to (w .digits) (w .number .all)))
+
 pub count-bare : (most v : ℕ) (f : List ℕ) → CountField most v f → CountField most v (bare f)
 count-bare most v f w =
     record {
       leading = 0;
       digits = w .digits;
-      text = spaces-rest (w .leading) f (w .digits) (w .text) (digits-no-space (w .digits) (digits-to (w .digits) (w .number .all)));
+      text = digits-bare most v f w;
       number = w .number;
       short = bare-fits f most (w .short);
       worth = w .worth;
@@ -54,12 +57,11 @@ lettered-bare letter high v f w =
     let d = n .digits in
     let text : f ≡ spaces (n .leading) ++ (d ++ quoted letter)
     = w .form .text ∙ ap (λ (x : List ℕ). x ++ quoted letter) (n .text) ∙ append-assoc (spaces (n .leading)) d (quoted letter) in
-    let bareNumber = count-bare 6 v (w .form .number) n in
     record {
       form = record {
         number = d;
         text = spaces-rest (n .leading) f (d ++ quoted letter) text (sign-spaces none (d ++ quoted letter) (first-then d (quoted letter) (digits-first d (n .number))));
-        count = rw (bareNumber .text) at bareNumber;
+        count = rw (digits-bare 6 v (w .form .number) n) at (count-bare 6 v (w .form .number) n);
       };
       greatest = w .greatest;
     }

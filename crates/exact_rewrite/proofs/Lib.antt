@@ -1,2 +1,5 @@
 pub mod FieldLaws
 pub mod LineLaws
+pub mod LinesLaws
+pub mod WholeLaws
+pub mod ExactLaws

@@ -1,16 +1,18 @@
 -- A line as it is written is what it was: the record of a line holds of it.
 --     fields-written             its fields are those of the line, each as it is written
---     line-short                 a line but the kind's is no longer than it was
+--     kept-short, numbers-short, analog-short, status-short     a line but the kind's is no longer than it was
+--     kind-long, word-short      the kind's line has at least 5 characters, and its word at most 8
 --     station-written to quality-written     each line of a configuration, and the kind's line in another kind
 -- Assumes nothing.
 use mathlib.Core.Path.{_≡_, refl, sym, ap, _∙_}
 use mathlib.Core.Logic.{_⊎_, inl, inr}
 use mathlib.Core.Bool.{Bool, true}
-use mathlib.Core.List.{List, []}
-use Prim.Native.Nat.{ℕ, _+_, _-_, _≤_}
+use mathlib.Core.List.{List, [], _∷_, _++_, append-nil}
+use Prim.Native.Nat.{ℕ, suc, _+_, _-_, _≤_}
 use native.Mathlib.Omega.{arith}
 use lib.Dec.{lit≤}
 use lib.IntN.{ℤ}
+use lib.ListN.{length}
 use Rattle.ground.specs.Tables.{every}
 use Rattle.text.specs.Fields.{commas, fieldCount, fieldAt}
 use Rattle.reals.specs.declared.Real.{Real}
@@ -18,13 +20,15 @@ use Rattle.reals.specs.declared.Real.the-variants as real
 use Rattle.model.specs.declared.Kind.{Kind}
 use Rattle.model.specs.declared.Kind.the-variants.{Ascii, Binary, Binary32}
 use Rattle.model.specs.Kinds.{kindName}
-use Rattle.paper.specs.Fields.{isBetween, AnyReal}
+use Rattle.paper.specs.Fields.{isBetween, lowered, kindWord, AnyReal}
 use Rattle.paper.specs.Lines.{Line, Fields, ChannelsLine, ChannelNames, AnalogLine, StatusLine, FrequencyLine, RatesLine, RateLine, KindLine, MultiplierLine, CodesLine}
 use Rattle.exact.proofs.CommaLaws.{fields-exactly}
 use Rattle.rewrite_lines.specs.declared.LineSort.{LineSort}
 use Rattle.rewrite_lines.specs.declared.LineSort.the-variants.{Kept, Numbers, Analog, Status, Word}
 use Rattle.rewrite_lines.specs.Lines.{isNumber, bare, fieldText, fieldsText, lineText}
+use Rattle.pieces.proofs.Laws.{kind-short}
 use Rattle.rewrite_lines.proofs.FieldLaws.{count-text, field-text, bytes-text}
+use Rattle.rewrite_lines.proofs.WalkLaws.{fields-short}
 use Rattle.exact_rewrite.proofs.FieldLaws.{count-bare, in-bare, lettered-bare, real-bare, any-bare, limits-bare, code-bare, local-bare}
 
 pub fields-written : (sort : LineSort) (n : ℕ) (f : ℕ → List ℕ) (l : List ℕ) → 1 ≤ n → Fields n f l → Fields n (λ i. fieldText (isNumber sort i) (f i)) (fieldsText sort l)
@@ -153,3 +157,38 @@ kind-line Binary32 = record { bytes = refl; is = record { f = λ i. kindName Bin
 pub kind-written : (k : Kind) (l : List ℕ) → Line (KindLine k) (lineText k Word l)
 unfolding lineText
 kind-written k l = kind-line k
+
+-- how long a line is as it is written
+pub kept-short : (k : Kind) (l : List ℕ) → length (lineText k Kept l) ≤ length l
+unfolding lineText
+kept-short k l = omega arith
+
+pub numbers-short : (k : Kind) (l : List ℕ) → length (lineText k Numbers l) ≤ length l
+unfolding lineText
+numbers-short k l = fields-short Numbers l
+
+pub analog-short : (k : Kind) (l : List ℕ) → length (lineText k Analog l) ≤ length l
+unfolding lineText
+analog-short k l = fields-short Analog l
+
+pub status-short : (k : Kind) (l : List ℕ) → length (lineText k Status l) ≤ length l
+unfolding lineText
+status-short k l = fields-short Status l
+
+pub word-short : (k : Kind) (l : List ℕ) → length (lineText k Word l) ≤ 8
+unfolding lineText
+word-short k l = kind-short k
+
+lowered-long : (f : List ℕ) → length (lowered f) ≡ length f
+lowered-long [] = refl
+lowered-long (b ∷ f) = ap suc (lowered-long f)
+
+word-long : (k : Kind) → 5 ≤ length (kindWord k)
+word-long Ascii = lit≤ tt
+word-long Binary = lit≤ tt
+word-long Binary32 = lit≤ tt
+
+pub kind-long : (k : Kind) (l : List ℕ) → KindLine k l → 5 ≤ length l
+kind-long k l w =
+    let e : l ≡ w .f 1 = w .fields .joined ∙ append-nil (w .f 1) in
+    rw (e, ← lowered-long (w .f 1), w .kind) (word-long k)

@@ -1,0 +1,74 @@
+-- Laws of the line with which a text begins, and of lines that are written one after the other.
+--     cut-within, bytes-cut      the line and its end lie within the text, and its bytes are bytes of lines
+--     cut-ended, cut-last        a line that ends with CR LF is found, and so is one that ends with the text
+--     lines-next, lines-last     lines that are written anew: one, and then the others; the last one
+--     lines-again                lines that were written, written anew, where that does not depend on how they were written
+-- Assumes nothing.
+use mathlib.Core.Path.{_≡_, refl, sym, _∙_}
+use mathlib.Core.Bool.{true}
+use mathlib.Core.List.{List, [], _∷_, _++_, append-nil}
+use Prim.Native.Nat.{ℕ, _+_, _≤_}
+use native.Mathlib.Nat.{zero-add}
+use native.Mathlib.Omega.{arith}
+use borrow.Author.Tests.{ne-eqb}
+use lib.ListN.{length, take, drop, length-append}
+use lib.Seq.{take-length, drop-length, take-append-seam, drop-append-add}
+use Rattle.text.specs.declared.Scanned.{Scanned}
+use Rattle.text.specs.declared.Scanned.the-variants.{Line, Ends, Bad}
+use Rattle.text.specs.Lines.{scanLine, scanLastLine, lineBytes}
+use Rattle.text.proofs.LineLaws.{FoundLast, last-found, bytes-passed, line-scanned}
+use Rattle.rewrite_lines.specs.declared.LineSort.{LineSort}
+use Rattle.rewrite.specs.Rewrite.{cutOf, cutLine, linesText}
+
+-- of a line, found or not
+within-of : (s : List ℕ) (k : Scanned) → FoundLast (length s) s k → (cutOf k .len ≤ cutOf k .taken) × (cutOf k .taken ≤ length s)
+within-of s (Line n t) f = (f .before, f .within)
+within-of s Ends f = (omega arith, omega arith)
+within-of s Bad f = (omega arith, omega arith)
+
+bytes-of : (s : List ℕ) (k : Scanned) → FoundLast (length s) s k → lineBytes (take (cutOf k .len) s) ≡ true
+bytes-of s (Line n t) f = f .bytes
+bytes-of s Ends f = refl
+bytes-of s Bad f = refl
+
+pub cut-within : (s : List ℕ) → (cutLine s .len ≤ cutLine s .taken) × (cutLine s .taken ≤ length s)
+unfolding cutLine
+cut-within s = within-of s (scanLastLine (length s) s) (last-found (length s) s)
+
+pub bytes-cut : (s : List ℕ) → lineBytes (take (cutLine s .len) s) ≡ true
+unfolding cutLine
+bytes-cut s = bytes-of s (scanLastLine (length s) s) (last-found (length s) s)
+
+pub cut-ended : (l u : List ℕ) → lineBytes l ≡ true → cutLine (l ++ 13 ∷ 10 ∷ u) ≡ record { len = length l; taken = length l + 2 }
+unfolding cutLine scanLastLine
+cut-ended l u ok =
+    let s = l ++ 13 ∷ 10 ∷ u in
+    let k = length-append l (13 ∷ 10 ∷ u) in
+    rw (ne-eqb (length s) 0 (λ e. omega arith), line-scanned (length s) l u ok (omega arith))
+
+pub cut-last : (l : List ℕ) → lineBytes l ≡ true → 1 ≤ length l → cutLine l ≡ record { len = length l; taken = length l }
+unfolding cutLine scanLastLine scanLine
+cut-last l ok h =
+    let e = rw append-nil at (bytes-passed (length l) 0 l [] ok (omega arith)) in
+    rw (ne-eqb (length l) 0 (λ z. omega arith), e)
+
+-- lines that are written anew
+module _ (anew : LineSort → List ℕ → List ℕ) where
+  pub lines-next : (sort : LineSort) (more : List LineSort) (l u : List ℕ) → lineBytes l ≡ true
+      → linesText anew (sort ∷ more) (l ++ 13 ∷ 10 ∷ u) ≡ anew sort l ++ 13 ∷ 10 ∷ linesText anew more u
+  unfolding linesText
+  lines-next sort more l u ok = rw (cut-ended l u ok, take-append-seam l (13 ∷ 10 ∷ u), drop-append-add)
+
+  pub lines-last : (sort : LineSort) (l : List ℕ) → lineBytes l ≡ true → 1 ≤ length l → linesText anew (sort ∷ []) l ≡ anew sort l ++ 13 ∷ 10 ∷ []
+  unfolding linesText
+  lines-last sort l ok h = rw (cut-last l ok h, take-length)
+
+pub lines-again : (again anew : LineSort → List ℕ → List ℕ)
+    → ((sort : LineSort) (x : List ℕ) → lineBytes x ≡ true → (lineBytes (anew sort x) ≡ true) × (again sort (anew sort x) ≡ again sort x))
+    → (more : List LineSort) (s : List ℕ) → linesText again more (linesText anew more s) ≡ linesText again more s
+unfolding linesText
+lines-again again anew same [] s = refl
+lines-again again anew same (sort ∷ more) s =
+    let w = same sort (take (cutLine s .len) s) (bytes-cut s) in
+    lines-next again sort more (anew sort (take (cutLine s .len) s)) (linesText anew more (drop (cutLine s .taken) s)) (w .0)
+    ∙ rw (w .1, lines-again again anew same more (drop (cutLine s .taken) s))

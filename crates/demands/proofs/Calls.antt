@@ -6,6 +6,7 @@
 --     alike, no-such-row      what the check of a file refuses, showing a row of it, the length question and the change refuse alike; 15 comes before the file
 --     as-the-question         the change refuses as the length question does, or else with 17
 --     never-17                the length question never says 17
+--     as-the-reader           the writer of a configuration refuses as its reader does, whatever the kind and the room; it says 10 only of a configuration that is accepted
 --     all-placed              each call gives each number at the place that the table has for it (Placed.antt)
 --     shown-as-given          demand 2 of the exported pair: a row that zl_write_row takes is the one that zl_row shows with the places that it was given in
 -- Assumes nothing.
@@ -58,7 +59,10 @@ use Rattle.calls_data.specs.Calls.{checkCall, rowSaid, rowCall, rowAsked, write
 use Rattle.calls_data.specs.Inner.{rowIn, writeIn}
 use Rattle.calls_change.specs.Calls.{lengthCall, changeCall}
 use Rattle.calls_change.specs.Inner.{neededIn, changeIn}
-use Rattle.demands.proofs.Placed.{Placed, PlacedTo, sizes-or-kind, no-row, sample-unfit, no-room, config-placed, file-placed, fits-placed}
+use Rattle.rewrite.specs.Rewrite.{rewritten, resultSaid, rewriteSaid}
+use Rattle.calls_rewrite.specs.Calls.{writeConfigCall}
+use Rattle.exact_rewrite.proofs.ExactLaws.{rewritten-exactly}
+use Rattle.demands.proofs.Placed.{Placed, PlacedTo, configuration-size, sizes-or-kind, no-row, sample-unfit, no-room, config-placed, file-placed, fits-placed}
 
 module _ {A : Type 0} where
   -- what a buffer that held `old` holds at the end, by what was said
@@ -126,25 +130,38 @@ change-call-within a d rows kind s new =
     bind-within (kindSaid (kindOf kind)) (λ k. changeIn (layoutBy a d rows k) s new) (λ k.
     bind-within (kindSaid (kindOf new)) (changeSaid (layoutBy a d rows k) s) (change-within (layoutBy a d rows k) s))
 
+rewrite-within : (s : List ℕ) (k : Kind) → Within (rewriteSaid s k)
+rewrite-within s k room new e = rewritten-exactly s k room new .0 e .4
+
+write-config-within : (s : List ℕ) (kind : ℕ) → Within (writeConfigCall s kind)
+unfolding writeConfigCall
+write-config-within s kind =
+    bind-within (configSaid (readConfig s)) (λ c room. kindSaid (kindOf kind) >>= λ k. rewriteSaid s k room) (λ c.
+    bind-within (kindSaid (kindOf kind)) (rewriteSaid s) (rewrite-within s))
+
 -- DEMAND 1. On "no" no byte of a lent buffer is changed; on "yes" the bytes or places that were said stand at its front, and the rest is as it was
 pub refused-unchanged :
-    -- write_row, change and put_reason, which zl_reason hands on to
+    -- write_row, change, write_config and put_reason, which zl_reason hands on to
     ((l : Layout) (n : ℕ) (r : Row) → Lent (writeSaid l n r))
     × ((l : Layout) (s : List ℕ) (k : Kind) → Lent (changeSaid l s k))
+    × ((s : List ℕ) (k : Kind) → Lent (rewriteSaid s k))
     × ((n : ℕ) → Lent (reasonSaid n))
-    -- zl_config, zl_row, zl_write_row, zl_change
+    -- zl_config, zl_row, zl_write_row, zl_change, zl_write_config
     × ((s : List ℕ) → Lent (configCall s))
     × ((a d rows kind : ℕ) (s : List ℕ) (n : ℕ) → Lent (rowCall a d rows kind s n))
     × ((a d rows kind n : ℕ) (zs : List ℤ) → Lent (writeCall a d rows kind n zs))
     × ((a d rows kind : ℕ) (s : List ℕ) (new : ℕ) → Lent (changeCall a d rows kind s new))
+    × ((s : List ℕ) (kind : ℕ) → Lent (writeConfigCall s kind))
 refused-unchanged = (
   (λ l n r. lent (writeSaid l n r) (write-within l n r)),
   (λ l s k. lent (changeSaid l s k) (change-within l s k)),
+  (λ s k. lent (rewriteSaid s k) (rewrite-within s k)),
   (λ n. lent (reasonSaid n) (reason-within n)),
   (λ s. lent (configCall s) (config-within s)),
   (λ a d rows kind s n. lent (rowCall a d rows kind s n) (row-call-within a d rows kind s n)),
   (λ a d rows kind n zs. lent (writeCall a d rows kind n zs) (write-call-within a d rows kind n zs)),
   (λ a d rows kind s new. lent (changeCall a d rows kind s new) (change-call-within a d rows kind s new)),
+  (λ s kind. lent (writeConfigCall s kind) (write-config-within s kind)),
 )
 
 -- what a row's answer, and a configuration's, says of the rule that gave it
@@ -221,6 +238,12 @@ as-the-question l s k room r =
     go : (x : Said Refusal ℕ) → (x >>= λ m. must (leb m room) (refused 17 0 0) >> says (changed l s k)) ≡ refuses r → (x ≡ refuses r) ⊎ (r ≡ refused 17 0 0)
     go (says m) e = on-test (leb m room) (λ t. let q = rw t at e in clash (cc)) (λ t. let q = rw t at e in inr (cc))
     go (refuses q) e = let w : q ≡ r = cc e in inl (ap refuses w)
+
+-- DEMAND 1. What the reading of a configuration refuses, the writer refuses with the same number and place, before it looks at the kind's number
+pub as-the-reader : (s : List ℕ) (r : Refusal) → readConfig s .answer ≡ No r
+    → ((k : Kind) (room : ℕ) → rewriteSaid s k room ≡ refuses r) × ((kind room : ℕ) → writeConfigCall s kind room ≡ refuses r)
+unfolding rewriteSaid writeConfigCall
+as-the-reader s r e = ((λ k room. rw e), (λ kind room. rw e))
 
 -- The calls refuse only so
 -- the layout is within the limits
@@ -370,6 +393,22 @@ change-call-only a d rows kind s new room =
     by-number kind (λ k. changeIn (layoutBy a d rows k) s new room) (λ k.
     by-number new (λ m. changeSaid (layoutBy a d rows k) s m room) (λ m. change-only (layoutBy a d rows k) s m room))
 
+result-only : (new : List ℕ) (room : ℕ) → RefusesOnly Placed (resultSaid new room)
+unfolding resultSaid
+result-only new room =
+    only-then Placed (must (leb (length new) 65536) (refused 1 0 0)) _ (only-must Placed (leb (length new) 65536) (refused 1 0 0) (λ e. configuration-size)) (λ e.
+    only-then Placed (must (leb (length new) room) (refused 17 0 0)) (says new) (only-must Placed (leb (length new) room) (refused 17 0 0) (λ f. no-room)) (λ f. tt))
+
+rewrite-only : (s : List ℕ) (k : Kind) (room : ℕ) → RefusesOnly Placed (rewriteSaid s k room)
+unfolding rewriteSaid
+rewrite-only s k room = only-bind Placed (configSaid (readConfig s)) (λ c. resultSaid (rewritten c k s) room) (config-only s) (λ c e. result-only (rewritten c k s) room)
+
+write-config-only : (s : List ℕ) (kind room : ℕ) → RefusesOnly Placed (writeConfigCall s kind room)
+unfolding writeConfigCall
+write-config-only s kind room =
+    only-bind Placed (configSaid (readConfig s)) (λ c. kindSaid (kindOf kind) >>= λ k. rewriteSaid s k room) (config-only s) (λ c e.
+    by-number kind (λ k. rewriteSaid s k room) (λ k. rewrite-only s k room))
+
 -- DEMAND 1. Each call that refuses gives the number at its place
 pub all-placed :
     ((s : List ℕ) (r : Refusal) → readConfig s .answer ≡ No r → Placed r)
@@ -378,14 +417,16 @@ pub all-placed :
     × ((l : Layout) (n : ℕ) (row : Row) (room : ℕ) (r : Refusal) → writeSaid l n row room ≡ refuses r → Placed r)
     × ((l : Layout) (s : List ℕ) (k : Kind) (r : Refusal) → bytesNeeded l s k ≡ refuses r → Placed r)
     × ((l : Layout) (s : List ℕ) (k : Kind) (room : ℕ) (r : Refusal) → changeSaid l s k room ≡ refuses r → Placed r)
+    × ((s : List ℕ) (k : Kind) (room : ℕ) (r : Refusal) → rewriteSaid s k room ≡ refuses r → Placed r)
     × ((n room : ℕ) (r : Refusal) → reasonSaid n room ≡ refuses r → Placed r)
-    -- zl_config, zl_check, zl_row, zl_write_row, zl_length, zl_change
+    -- zl_config, zl_check, zl_row, zl_write_row, zl_length, zl_change, zl_write_config
     × ((s : List ℕ) (room : ℕ) (r : Refusal) → configCall s room ≡ refuses r → Placed r)
     × ((a d rows kind : ℕ) (s : List ℕ) (r : Refusal) → checkCall a d rows kind s ≡ refuses r → Placed r)
     × ((a d rows kind : ℕ) (s : List ℕ) (n room : ℕ) (r : Refusal) → rowCall a d rows kind s n room ≡ refuses r → Placed r)
     × ((a d rows kind n : ℕ) (zs : List ℤ) (room : ℕ) (r : Refusal) → writeCall a d rows kind n zs room ≡ refuses r → Placed r)
     × ((a d rows kind : ℕ) (s : List ℕ) (new : ℕ) (r : Refusal) → lengthCall a d rows kind s new ≡ refuses r → Placed r)
     × ((a d rows kind : ℕ) (s : List ℕ) (new room : ℕ) (r : Refusal) → changeCall a d rows kind s new room ≡ refuses r → Placed r)
+    × ((s : List ℕ) (kind room : ℕ) (r : Refusal) → writeConfigCall s kind room ≡ refuses r → Placed r)
 all-placed = (
   (λ s r e. only-given Placed (configSaid (readConfig s)) r (rw e) (config-only s)),
   (λ l s r e. only-given Placed (answerSaid (checkFile l s)) r (rw e) (accepted-only l s)),
@@ -393,6 +434,7 @@ all-placed = (
   (λ l n row room r e. only-given Placed (writeSaid l n row room) r e (write-only l n row room)),
   (λ l s k r e. only-given (PlacedTo 16) (bytesNeeded l s k) r e (needed-only l s k) .0),
   (λ l s k room r e. only-given Placed (changeSaid l s k room) r e (change-only l s k room)),
+  (λ s k room r e. only-given Placed (rewriteSaid s k room) r e (rewrite-only s k room)),
   (λ n room r e. only-given Placed (reasonSaid n room) r e (reason-only n room)),
   (λ s room r e. only-given Placed (configCall s room) r e (config-call-only s room)),
   (λ a d rows kind s r e. only-given Placed (checkCall a d rows kind s) r e (check-call-only a d rows kind s)),
@@ -400,6 +442,7 @@ all-placed = (
   (λ a d rows kind n zs room r e. only-given Placed (writeCall a d rows kind n zs room) r e (write-call-only a d rows kind n zs room)),
   (λ a d rows kind s new r e. only-given Placed (lengthCall a d rows kind s new) r e (length-call-only a d rows kind s new)),
   (λ a d rows kind s new room r e. only-given Placed (changeCall a d rows kind s new room) r e (change-call-only a d rows kind s new room)),
+  (λ s kind room r e. only-given Placed (writeConfigCall s kind room) r e (write-config-only s kind room)),
 )
 
 -- DEMAND 2, the exported pair. The places of a row that was handed in are those that it was handed in by; places past 1 + A + D are not read

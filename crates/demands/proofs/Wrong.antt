@@ -15,6 +15,9 @@
 --     length-says-17                  the length question refuses with 17 where the change does
 --     minus-lost                      the code -0h30 is read as +30 minutes
 --     first-and-trigger-exchanged
+--     refuses-every-writing           no configuration is written
+--     copies-the-configuration        a configuration is written as it stands, its old kind's word too
+--     shows-the-old-kind              what is written shows the kind that the configuration had
 -- Assumes nothing.
 use mathlib.Core.Path.{_≡_, refl, sym, ap, _∙_}
 use mathlib.Core.Bool.{true, false}
@@ -307,3 +310,32 @@ minus-lost e = let q : negℤ (pos 30) ≡ pos 30 = sym recording-code ∙ e in 
 -- the recording of the rules: its first sample is 1 ms before its trigger
 pub first-and-trigger-exchanged : (readConfig recording .config .first .time .nanosecond ≡ 1_000_000) × (readConfig recording .config .trigger .time .nanosecond ≡ 0) → ⊥
 first-and-trigger-exchanged (e, g) = eqb-false 0 1_000_000 refl (sym (ap (λ a. a .config .first .time .nanosecond) recording-accepted) ∙ e)
+
+-- the recording of the rules, whose kind is ASCII, written as binary
+binary-written : (w : List ℕ) × (rewriteSaid recording Binary 172 ≡ says w)
+binary-written =
+    let w = rewritten recordingShows Binary recording in
+    let long : length w ≤ 172 = never-long recording recordingShows recording-configuration Binary .0 in
+    (w, rewritten-exactly recording Binary 172 w .1 (recordingShows, recording-configuration, refl, omega arith, long))
+
+-- it shows binary
+binary-shown : readConfig (binary-written .0) .config .layout .kind ≡ Binary
+unfolding withKind
+binary-shown =
+    ap (λ (a : ConfigAnswer). a .config .layout .kind) (written-accepted recording recordingShows recording-configuration Binary 172 (binary-written .0) (binary-written .1) .1)
+
+pub refuses-every-writing : ((s : List ℕ) (k : Kind) (room : ℕ) → (r : Refusal) × (rewriteSaid s k room ≡ refuses r)) → ⊥
+refuses-every-writing h =
+    let b = h recording Binary 172 in
+    let q : says (binary-written .0) ≡ refuses (b .0) = sym (binary-written .1) ∙ b .1 in
+    clash (cc)
+
+pub shows-the-old-kind : ((s w : List ℕ) (k : Kind) (room : ℕ) → rewriteSaid s k room ≡ says w → readConfig w .config .layout .kind ≡ readConfig s .config .layout .kind) → ⊥
+shows-the-old-kind h =
+    let old : readConfig recording .config .layout .kind ≡ Ascii
+    = ap (λ (a : ConfigAnswer). a .config .layout .kind) (config-exactly recording recordingShows .1 recording-configuration) in
+    let q : Binary ≡ Ascii = sym binary-shown ∙ h recording (binary-written .0) Binary 172 (binary-written .1) ∙ old in
+    clash (cc)
+
+pub copies-the-configuration : ((s w : List ℕ) (k : Kind) (room : ℕ) → rewriteSaid s k room ≡ says w → w ≡ s) → ⊥
+copies-the-configuration h = shows-the-old-kind (λ s w k room e. ap (λ (x : List ℕ). readConfig x .config .layout .kind) (h s w k room e))

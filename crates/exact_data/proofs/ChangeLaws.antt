@@ -3,7 +3,7 @@
 --     one-first, none-first    there is one first sample outside, and none where all are in range
 --     file-ext                 the same rows are written as the same file
 --     said, said-file          what the change says of a data file, by its rows alone
---     new-file, new-said       where every sample is in range, the new file is the data file of the same rows, and is said where there is room
+--     new-file, new-bytes, new-said     where every sample is in range, the new file is the data file of the same rows, it is bytes, and is said where there is room
 --     back-said, restored      and what is then said of changing back: the first file itself, or the plain text with its rows
 --     told                     in all: the new file, 17 where there is no room for it, or 16 at the first sample outside
 -- Assumes nothing.
@@ -43,7 +43,7 @@ use Rattle.paper.specs.Data.{InRange, sampleOf, TextFile, DataFile}
 use Rattle.paper.specs.Written.{EndingOf, PlainText, Restored, AllInRange, FirstOutside}
 use Rattle.exact_data.proofs.NumberLaws.{range-exactly}
 use Rattle.exact_data.proofs.FileLaws.{as-text, RowsAre, fine-exactly, same-file}
-use Rattle.exact_data.proofs.StandLaws.{fits-exactly, rows-stand}
+use Rattle.exact_data.proofs.StandLaws.{fits-exactly, rows-stand, bytes-stand}
 use Rattle.exact_data.proofs.PlainLaws.{plain-there}
 
 -- the search through a row
@@ -224,6 +224,10 @@ module _ (l : Layout) (r : ℕ → Row) (s : List ℕ) (size : Sized l) (bytes :
     new-file =
         same-file (inKind k l) (λ i. trimmed (inKind k l) (r i)) r (fileOf (inKind k l) r) new-trimmed k
         (rows-stand (inKind k l) r (sized-in k l size) new-writes (endMark (inKind k l)) (ending-there (inKind k l)))
+
+    pub new-bytes : every isByte (fileOf (inKind k l) r) ≡ true
+    unfolding fileOf
+    new-bytes = bytes-stand (inKind k l) r (sized-in k l size) new-writes (endMark (inKind k l)) (ending-there (inKind k l))
 
     pub new-said : (room : ℕ) → length (fileOf (inKind k l) r) ≤ room → changeSaid l s k room ≡ says (fileOf (inKind k l) r)
     new-said room h = said-file k room ∙ rw (all-fit, le-leb (length (fileOf (inKind k l) r)) room h)

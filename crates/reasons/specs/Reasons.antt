@@ -12,7 +12,7 @@ use Rattle.model.specs.Refusals.{refused}
 -- the meaning of a number; 10 for a number that no refusal has
 unfoldable pub reasonOf : ℕ → Said Refusal (List ℕ)
 reasonOf n =
-    if eqb n 1 then says (quoted "the configuration has more than 65,536 bytes")
+    if eqb n 1 then says (quoted "a configuration, read or to be written, of more than 65,536 bytes")
     else if eqb n 2 then says (quoted "the file ends before or inside a line")
     else if eqb n 3 then says (quoted "a byte outside 32 to 126 before the end of the line")
     else if eqb n 4 then says (quoted "wrong number of fields")

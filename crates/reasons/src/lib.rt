@@ -42,23 +42,23 @@ fn reason_start(i: usize) -> usize
 {
     let starts = [
         0,
-        44,
-        81,
-        132,
-        154,
-        185,
-        233,
-        288,
-        315,
-        340,
-        365,
-        389,
-        423,
-        443,
-        469,
-        480,
-        511,
-        518,
+        65,
+        102,
+        153,
+        175,
+        206,
+        254,
+        309,
+        336,
+        361,
+        386,
+        410,
+        444,
+        464,
+        490,
+        501,
+        532,
+        539,
     ];
     starts[i]
 }
@@ -81,7 +81,7 @@ pub fn put_reason(number: u32, out: &mut [u8]) -> Written
 {
     match number {
         1..=17 => say_from(
-            b"the configuration has more than 65,536 bytes\
+            b"a configuration, read or to be written, of more than 65,536 bytes\
             the file ends before or inside a line\
             a byte outside 32 to 126 before the end of the line\
             wrong number of fields\

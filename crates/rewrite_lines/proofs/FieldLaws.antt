@@ -12,7 +12,6 @@ use Prim.Native.Nat.{ℕ, zero, suc, _+_, _≤_}
 use native.Mathlib.Omega.{arith}
 use lib.Dec.{eqb, leb}
 use lib.ListN.{length, take, drop, length-drop}
-use Rattle.ground.specs.Choice.{if_then_else_}
 use Rattle.ground.specs.Tables.{cat, every}
 use Rattle.ground.proofs.Cases.{on-test}
 use Rattle.ground.proofs.Every.{and-split, and-join, every-append, every-cat}

@@ -1,14 +1,13 @@
 -- Laws of a line as it is written.
 --     text-others               it is its fields, where it neither stays nor becomes the kind's word
 --     text-line-short           it has no more bytes than it had, but where it becomes the kind's word
---     line-short                and then at most the 8 of a word
 --     line-bytes                its bytes are bytes of a line
 --     line-again                writing it again changes nothing but the kind's word
 -- Assumes nothing.
 use mathlib.Core.Path.{_≡_, refl}
 use mathlib.Core.Bool.{true}
 use mathlib.Core.List.{List, [], _∷_}
-use Prim.Native.Nat.{ℕ, _+_, _≤_}
+use Prim.Native.Nat.{ℕ, _≤_}
 use native.Mathlib.Omega.{arith}
 use types.Run.{OneOf, miss}
 use denote.Enum.Declared.{tagOf}
@@ -17,7 +16,6 @@ use Rattle.text.specs.Lines.{lineBytes}
 use Rattle.model.specs.declared.Kind.{Kind}
 use Rattle.model.specs.declared.Kind.the-variants.{Ascii, Binary, Binary32}
 use Rattle.model.specs.Kinds.{kindName}
-use Rattle.pieces.proofs.Laws.{kind-short}
 use Rattle.rewrite_lines.specs.declared.LineSort.{LineSort}
 use Rattle.rewrite_lines.specs.declared.LineSort.the-variants.{Kept, Numbers, Analog, Status, Word}
 use Rattle.rewrite_lines.specs.Lines.{fieldsText, lineText}
@@ -44,14 +42,6 @@ text-line-short k Numbers x h = fields-short Numbers x
 text-line-short k Analog x h = fields-short Analog x
 text-line-short k Status x h = fields-short Status x
 text-line-short k Word x h = absurd (h refl)
-
-pub line-short : (k : Kind) (sort : LineSort) (x : List ℕ) → length (lineText k sort x) ≤ length x + 8
-unfolding lineText
-line-short k Kept x = omega arith
-line-short k Numbers x = omega (arith, fields-short Numbers x)
-line-short k Analog x = omega (arith, fields-short Analog x)
-line-short k Status x = omega (arith, fields-short Status x)
-line-short k Word x = omega (arith, kind-short k)
 
 -- the word of a kind
 kind-bytes : (k : Kind) → lineBytes (kindName k) ≡ true

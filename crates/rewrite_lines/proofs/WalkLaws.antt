@@ -6,16 +6,16 @@
 --     put-byte                  one byte more is put
 -- Assumes nothing.
 use mathlib.Core.Path.{_≡_, refl, sym, ap, _∙_}
-use mathlib.Core.Bool.{Bool, true, false, _&&_}
+use mathlib.Core.Bool.{Bool, true, false, not, _&&_}
 use mathlib.Core.List.{List, [], _∷_, _++_, append-nil}
 use Prim.Native.Nat.{ℕ, zero, suc, _+_, _≤_, _<_}
 use native.Mathlib.Nat.{add-zero, zero-add}
 use native.Mathlib.Numerals.{add-one}
 use native.Mathlib.Omega.{arith}
+use borrow.Author.Tests.{not-true, not-false}
 use lib.Dec.{eqb}
 use lib.ListN.{length, drop, getD, set}
 use lib.Seq.{take-suc-set, drop-set-lt}
-use Rattle.ground.specs.Choice.{if_then_else_}
 use Rattle.ground.proofs.Cases.{on-test}
 use Rattle.ground.proofs.Walk.{here}
 use Rattle.text.specs.Fields.{commas, fieldLength, firstField, fieldAt, joined}
@@ -26,14 +26,14 @@ use Rattle.rewrite_lines.specs.declared.LineSort.{LineSort}
 use Rattle.rewrite_lines.specs.Lines.{isNumber, fieldText, fieldsText}
 use Rattle.rewrite_lines.specs.Inner.{isLeftOut, nextField, walked}
 
--- one turn of the walk over l, at a place within it
+-- one turn of the walk over l, at a place within it, where t says whether its byte is left out
 module _ (sort : LineSort) (i : ℕ) (leads : Bool) (l : List ℕ) (at : ℕ) (h : at < length l) where
-  pub walk-out : isLeftOut sort i leads (getD l at 0) ≡ true → walked sort i leads (drop at l) ≡ walked sort i leads (drop (at + 1) l)
-  walk-out e = rw (here l at h, e)
+  pub walk-out : {t : Bool} → t ≡ isLeftOut sort i leads (getD l at 0) → not t ≡ false → walked sort i leads (drop at l) ≡ walked sort i leads (drop (at + 1) l)
+  walk-out {t} e n = rw (here l at h, ← e, not-false t n)
 
-  pub walk-in : isLeftOut sort i leads (getD l at 0) ≡ false
+  pub walk-in : {t : Bool} → t ≡ isLeftOut sort i leads (getD l at 0) → not t ≡ true
       → walked sort i leads (drop at l) ≡ getD l at 0 ∷ walked sort (nextField i (getD l at 0)) (eqb (getD l at 0) 44) (drop (at + 1) l)
-  walk-in e = rw (here l at h, e)
+  walk-in {t} e n = rw (here l at h, ← e, not-true t n)
 
 pub next-small : (i b : ℕ) → nextField i b ≤ i + 1
 unfolding nextField
@@ -61,6 +61,10 @@ stays sort i (b ∷ f) r h =
     (λ e. let z : commas f + 1 ≡ 0 = rw e at h in absurd (omega arith))
     (λ e. rw (none-out sort i b, next-same i b e, e, stays sort i f r (rw e at h)))
 
+none : (t : Bool) → t && false ≡ false
+none true = refl
+none false = refl
+
 -- a field f and what follows it: the line's end, or a comma
 field-walked : (sort : LineSort) (i : ℕ) (f r : List ℕ) → commas f ≡ 0 → walked sort i true r ≡ walked sort i false r
     → walked sort i true (f ++ r) ≡ fieldText (isNumber sort i) f ++ walked sort i false r
@@ -69,16 +73,13 @@ field-walked sort i (b ∷ f) r h e =
     on-test (eqb b 44)
     (λ u. let z : commas f + 1 ≡ 0 = rw u at h in absurd (omega arith))
     (λ u.
-      let plain : commas f ≡ 0 = rw u at h in
-      let more = stays sort i f r plain in
-      let again = field-walked sort i f r plain e in
-      on-test (isNumber sort i)
-      (λ t. on-test (eqb b 32)
-        (λ s. rw (first-out sort i b, s, t) (rw t at again))
-        (λ s. rw (first-out sort i b, s, t, next-same i b u, u, more)))
-      (λ t. on-test (eqb b 32)
-        (λ s. rw (first-out sort i b, s, t, next-same i b u, u, more))
-        (λ s. rw (first-out sort i b, s, t, next-same i b u, u, more))))
+    let plain : commas f ≡ 0 = rw u at h in
+    let on : walked sort (nextField i b) (eqb b 44) (f ++ r) ≡ f ++ walked sort i false r = rw (next-same i b u, u) (stays sort i f r plain) in
+    on-test (isNumber sort i)
+    (λ t. on-test (eqb b 32)
+    (λ s. rw (first-out sort i b, s, t) (rw t at (field-walked sort i f r plain e)))
+    (λ s. rw (first-out sort i b, s, t, on)))
+    (λ t. rw (first-out sort i b, t, none (eqb b 32), on)))
 
 -- at a comma
 at-comma : (sort : LineSort) (i : ℕ) (leads : Bool) (r : List ℕ) → walked sort i leads (44 ∷ r) ≡ 44 ∷ walked sort (i + 1) true r

@@ -1,5 +1,5 @@
 // The exported calls, on plain numbers and lent slices: what C and Rust link.
-// Each hands on to the call of its subject (crates calls_config, calls_data, calls_change, calls_reason), and promises what that promises.
+// Each hands on to the call of its subject (crates calls_config, calls_data, calls_change, calls_rewrite, calls_reason), and promises what that promises.
 use answers::zl_answer;
 ghost use mathlib.Core.Path.{_≡_};
 ghost use lib.ListN.{length};
@@ -9,6 +9,7 @@ ghost use Rattle.answers.specs.Answers.{told, toldWritten, toldShown};
 ghost use Rattle.calls_config.specs.Calls.{configCall};
 ghost use Rattle.calls_data.specs.Calls.{checkCall, rowCall, writeCall};
 ghost use Rattle.calls_change.specs.Calls.{lengthCall, changeCall};
+ghost use Rattle.calls_rewrite.specs.Calls.{writeConfigCall};
 
 // What an accepted configuration shows, as 34 places, or the first refusal; no room last of all.
 #[no_mangle]
@@ -91,6 +92,15 @@ pub extern "C" fn zl_change(
     ensures { λ _. ⌜ now (out .exit) ≡ over (changeCall a d rows kind (now («data» .entry)) «new_kind» (length (now (out .entry)))) (now (out .entry)) ⌝ }
 {
     calls_change::change(a, d, rows, kind, data, new_kind, out)
+}
+
+// The configuration in a kind, written at the front of `out`, or nothing is.
+#[no_mangle]
+pub extern "C" fn zl_write_config(cfg: &[u8], kind: u32, out: &mut [u8]) -> zl_answer
+    ensures { λ r. ⌜ r ≡ toldWritten (writeConfigCall (now (cfg .entry)) kind (length (now (out .entry)))) ⌝ }
+    ensures { λ _. ⌜ now (out .exit) ≡ over (writeConfigCall (now (cfg .entry)) kind (length (now (out .entry)))) (now (out .entry)) ⌝ }
+{
+    calls_rewrite::write_config(cfg, kind, out)
 }
 
 // The meaning of a refusal's number, written at the front of `out` as text, or nothing is.

@@ -101,8 +101,8 @@ fn run(choice: &Choice) -> Vec<Figure> {
 const NOTES: &str = "\
 - MB is 1,000,000 bytes: of the configuration for config and write-config; of the file for check and change; of the file
   for each row shown, since every call checks the whole file; written for write
-- write-config: to binary, which the configuration's own kind is; of the largest layout also one of 65,536 bytes, names as
-  long as they may be and a space before each real
+- write-config: to binary, which the configuration's own kind is; of the largest layout also one of 65,536 bytes, with
+  long names and a space before each real
 - the programs take turns, round after round; the best round of each counts; a pass of over 8 seconds is taken once
 - buffers: input and output are made and touched before any timing and used again in every pass, so no page is new to a
   pass; the output is filled anew before each program's first pass, whose bytes are compared, and not cleared after that

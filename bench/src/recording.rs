@@ -119,8 +119,8 @@ fn configuration(a: u32, d: u32, rows: u32) -> Vec<u8> {
     lines.join("\r\n").into_bytes()
 }
 
-/// The configuration with a space before each real of its channels, and with long names and circuits, so that it has the
-/// most bytes.
+/// The configuration with a space before each real of its channels, and with long names and circuits, so that it has
+/// the most bytes.
 fn longest(cfg: &[u8]) -> Vec<u8> {
     let spaced = |line: &str| {
         let mut fields: Vec<String> = line.split(',').map(str::to_string).collect();

@@ -1,5 +1,5 @@
-//! The configuration written for a kind. It is read once, and where it has to be cut is noted; what lies between the cuts
-//! is copied.
+//! The configuration written for a kind. It is read once, and where it has to be cut is noted; what lies between the
+//! cuts is copied.
 
 use super::config::{read, Notes, MOST_BYTES, PLACES};
 use super::{answer, no, Answer};
@@ -11,8 +11,8 @@ const WORDS: [&[u8]; 3] = [b"ASCII", b"binary", b"binary32"];
 /// number of rates, 8 rates with their last rows, the multiplier and 2 codes.
 const MOST_CUTS: usize = 3 + 8 * 96 + 256 + 1 + 1 + 2 * 8 + 1 + 2;
 
-/// Spaces that are left out. An offset in a configuration has 16 bits; with as many for their number a list of cuts has no
-/// gaps and is made at once.
+/// Spaces that are left out. An offset in a configuration has 16 bits; with as many for their number a list of cuts has
+/// no gaps and is made at once.
 #[derive(Clone, Copy)]
 struct Cut {
     start: u16,

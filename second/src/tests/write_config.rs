@@ -157,49 +157,26 @@ fn the_empty_frequency() {
     assert_eq!(written(&with(&[(5, " ")]), 0), Err(no(5, 5, 1)));
 }
 
-/// Two analog channels, three status channels and three rates: every line at its own place.
+/// Two analog channels, three status channels and three rates, with spaces before all that may have one.
+#[rustfmt::skip]
+const SPACED: [&str; 18] = [
+    "B,R,2013", " 5, 2A, 3D", " 1, a,,,V, 1, 0, 0, -5, 7, 1, 1,S", " 2, b,,,V, 1, 0, 0, -5, 7, 1, 1,p",
+    " 1, t,,,0", " 2, u,,,1", " 3, v,,,0", " 50", " 3", " 100, 2", " 200, 4", " 300, 6", S[7], S[8],
+    "ascii", " 1", " +1, -2h30", "B,0",
+];
+
+/// The same as it is written to binary32.
+#[rustfmt::skip]
+const BARE: [&str; 18] = [
+    "B,R,2013", "5,2A,3D", "1, a,,,V,1,0,0,-5,7,1,1,S", "2, b,,,V,1,0,0,-5,7,1,1,p",
+    "1, t,,,0", "2, u,,,1", "3, v,,,0", "50", "3", "100,2", "200,4", "300,6", S[7], S[8],
+    "binary32", "1", "+1,-2h30", "B,0",
+];
+
+/// Every line at its own place.
 #[test]
 fn several_channels_and_rates() {
-    let cfg = join(&[
-        "B,R,2013",
-        " 5, 2A, 3D",
-        " 1, a,,,V, 1, 0, 0, -5, 7, 1, 1,S",
-        " 2, b,,,V, 1, 0, 0, -5, 7, 1, 1,p",
-        " 1, t,,,0",
-        " 2, u,,,1",
-        " 3, v,,,0",
-        " 50",
-        " 3",
-        " 100, 2",
-        " 200, 4",
-        " 300, 6",
-        S[7],
-        S[8],
-        "ascii",
-        " 1",
-        " +1, -2h30",
-        "B,0",
-    ]);
-    let want = join(&[
-        "B,R,2013",
-        "5,2A,3D",
-        "1, a,,,V,1,0,0,-5,7,1,1,S",
-        "2, b,,,V,1,0,0,-5,7,1,1,p",
-        "1, t,,,0",
-        "2, u,,,1",
-        "3, v,,,0",
-        "50",
-        "3",
-        "100,2",
-        "200,4",
-        "300,6",
-        S[7],
-        S[8],
-        "binary32",
-        "1",
-        "+1,-2h30",
-        "B,0",
-    ]);
+    let (cfg, want) = (join(&SPACED), join(&BARE));
     assert_eq!((cfg.len(), want.len()), (245, 215));
     assert_eq!(written(&cfg, 2), Ok(want));
     kept(&cfg);

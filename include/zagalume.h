@@ -23,6 +23,7 @@
  *
  *                     x86-64      aarch64
  *     zl_config           800         832
+ *     zl_write_config       ?           ?
  *     zl_check            352         304
  *     zl_row             3344        2864
  *     zl_write_row       2576        2544
@@ -37,7 +38,7 @@
 #include <stdint.h>
 
 /* The version of this header and its library. */
-#define ZL_VERSION "0.1.0"
+#define ZL_VERSION "0.2.0"
 
 #ifdef __cplusplus
 extern "C" {
@@ -65,7 +66,7 @@ enum {
  */
 enum {
     ZL_YES = 0,
-    ZL_REFUSED_CONFIG_SIZE = 1,   /* the configuration has more than 65,536 bytes; 0, 0 */
+    ZL_REFUSED_CONFIG_SIZE = 1,   /* the configuration has, or would have, more than 65,536 bytes; 0, 0 */
     ZL_REFUSED_EARLY_END = 2,     /* the configuration ends before or inside a line; line, 0 */
     ZL_REFUSED_BYTE = 3,          /* a byte outside 32 to 126 before the line's end; line, 0 */
     ZL_REFUSED_FIELD_COUNT = 4,   /* wrong number of fields; line, 0 */
@@ -76,7 +77,8 @@ enum {
     ZL_REFUSED_YEAR = 8,          /* a year of four digits that is not 2013; line, field */
     ZL_REFUSED_BYTES_AFTER = 9,   /* bytes after the last line; the line after it, 0 */
     ZL_REFUSED_LAYOUT = 10,       /* the layout is outside the limits, or there is no such kind, the new kind of a
-                                     change too; a row to write has too few places; no such refusal; 0, 0 */
+                                     change or of a written configuration too; a row to write has too few places; no
+                                     such refusal; 0, 0 */
     ZL_REFUSED_FILE_LENGTH = 11,  /* wrong length of the data file; binary kinds 0, 0; ASCII row, 0 */
     ZL_REFUSED_ROW_NUMBER = 12,   /* a row's number is not the row's; row, 1 */
     ZL_REFUSED_PADDING = 13,      /* a padding bit is set; row, 0 */
@@ -144,6 +146,16 @@ enum {
 zl_answer zl_config(const uint8_t *cfg, size_t cfg_length, int64_t *shown, size_t shown_length);
 
 /*
+ * Writes a configuration for a data file of that kind: the kind's word as ASCII, binary or binary32, numbers and codes
+ * without the spaces before them, every other field as it stands, and CR LF on each line, the last too. What is written is
+ * accepted and shows the same in all but the kind, and written again to that kind it stays as it is.
+ *   Yes:    length bytes of out are written, at most 5 more than cfg_length; room of ZL_MOST_CONFIG_BYTES is always enough.
+ *   No:     1 to 9 as zl_config refuses the configuration; 10, where there is no such kind; 1, where the result would have
+ *           more than 65,536 bytes; last of all 17, where out is too short.
+ */
+zl_answer zl_write_config(const uint8_t *cfg, size_t cfg_length, uint32_t kind, uint8_t *out, size_t out_length);
+
+/*
  * Checks a data file against its layout: a analog and d status channels, the number of rows, and the kind.
  *   Yes:    nothing is written; length is 0.
  *   No:     10; then the file. Binary kinds: 11, then row by row 12, 13. ASCII: row by row, in a row the first of 11 and
@@ -204,7 +216,7 @@ zl_answer zl_reason(uint32_t number, uint8_t *out, size_t out_length);
 static inline const char *zl_reason_text(uint32_t number)
 {
     switch (number) {
-    case ZL_REFUSED_CONFIG_SIZE: return "the configuration has more than 65,536 bytes";
+    case ZL_REFUSED_CONFIG_SIZE: return "a configuration, read or to be written, of more than 65,536 bytes";
     case ZL_REFUSED_EARLY_END: return "the file ends before or inside a line";
     case ZL_REFUSED_BYTE: return "a byte outside 32 to 126 before the end of the line";
     case ZL_REFUSED_FIELD_COUNT: return "wrong number of fields";

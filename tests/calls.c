@@ -5,8 +5,13 @@
 #include <stdio.h>
 #include <string.h>
 
-static const char configuration[] = "Bench 2,R7,2013\r\n2,1A,1D\r\n1,Ia,A,,A,0.5,0,0,-2048,2047,400,1,S\r\n1,Trip,,,0\r\n50\r\n1\r\n1000,2\r\n"
-                                    "03/02/2024,09:15:00.000000\r\n03/02/2024,09:15:00.001000\r\nASCII\r\n1\r\n0,0\r\n0,3\r\n";
+/* The lines after the channels' numbers, up to the kind's word, and after it. */
+#define MIDDLE "1,Ia,A,,A,0.5,0,0,-2048,2047,400,1,S\r\n1,Trip,,,0\r\n50\r\n1\r\n1000,2\r\n03/02/2024,09:15:00.000000\r\n03/02/2024,09:15:00.001000\r\n"
+#define END "\r\n1\r\n0,0\r\n0,3"
+
+static const char configuration[] = "Bench 2,R7,2013\r\n2,1A,1D\r\n" MIDDLE "ASCII" END "\r\n";
+static const char binary_configuration[] = "Bench 2,R7,2013\r\n2,1A,1D\r\n" MIDDLE "binary" END "\r\n";
+static const char spaced_configuration[] = "Bench 2,R7,2013\r\n     2, 1A,  1D\r\n" MIDDLE "BINARY32" END;
 static const char text_file[] = "1,0,-3,0\r\n2,1000,300,1\r\n\x1A\r\n";
 static const uint8_t binary_file[] = {1, 0, 0, 0, 0, 0, 0, 0, 0xFD, 0xFF, 0, 0, 2, 0, 0, 0, 0xE8, 3, 0, 0, 0x2C, 1, 1, 0};
 
@@ -77,6 +82,18 @@ static void configurations(void)
     judge_no("no configuration", zl_config(NULL, 0, NULL, 0), ZL_REFUSED_EARLY_END, 1, 0);
     judge_no("a configuration cut short", zl_config(cfg, length - 5, shown, PLACES), ZL_REFUSED_EARLY_END, 13, 0);
     judge_no("a place too few", zl_config(cfg, length, shown, ZL_CONFIG_PLACES - 1), ZL_REFUSED_NO_ROOM, 0, 0);
+}
+
+static void written_configurations(void)
+{
+    const uint8_t *cfg = bytes_of(configuration), *spaced = bytes_of(spaced_configuration);
+    const uint32_t length = sizeof configuration - 1, spaced_length = sizeof spaced_configuration - 1, binary_length = sizeof binary_configuration - 1;
+    judge_yes("a configuration to binary", zl_write_config(cfg, length, ZL_BINARY, out, BYTES), binary_configuration, binary_length, 0);
+    judge_yes("a configuration with spaces", zl_write_config(spaced, spaced_length, ZL_ASCII, out, length), configuration, length, 0);
+    judge_no("no configuration to no kind", zl_write_config(NULL, 0, 3, NULL, 0), ZL_REFUSED_EARLY_END, 1, 0);
+    judge_no("a configuration to no kind", zl_write_config(cfg, length, 3, NULL, 0), ZL_REFUSED_LAYOUT, 0, 0);
+    judge_no("a configuration with no room", zl_write_config(cfg, length, ZL_BINARY, NULL, 0), ZL_REFUSED_NO_ROOM, 0, 0);
+    judge_no("a byte too few for a configuration", zl_write_config(cfg, length, ZL_BINARY, out, binary_length - 1), ZL_REFUSED_NO_ROOM, 0, 0);
 }
 
 static void rows(void)
@@ -172,6 +189,7 @@ int main(void)
 {
     fill();
     configurations();
+    written_configurations();
     rows();
     files();
     layouts();

@@ -12,7 +12,7 @@ enum { A = ZL_MOST_ANALOGS, D = ZL_MOST_STATUSES, ROWS = 3, STACK_WORDS = 1 << 1
 
 static const uint64_t paint = 0xA5A5A5A55A5A5A5A;
 
-static uint8_t cfg[ZL_MOST_CONFIG_BYTES], files[3][ROWS * ZL_MOST_ROW_BYTES], out[ROWS * ZL_MOST_ROW_BYTES];
+static uint8_t cfg[ZL_MOST_CONFIG_BYTES], files[3][ROWS * ZL_MOST_ROW_BYTES], out[ZL_MOST_CONFIG_BYTES];
 static size_t cfg_length, file_lengths[3];
 static int64_t shown[ZL_MOST_ROW_PLACES], row[ZL_MOST_ROW_PLACES];
 
@@ -31,6 +31,11 @@ struct call {
 static zl_answer make_config(const struct call *c)
 {
     return zl_config(cfg, cfg_length, shown, c->room);
+}
+
+static zl_answer make_write_config(const struct call *c)
+{
+    return zl_write_config(cfg, cfg_length, c->new_kind, out, c->room);
 }
 
 static zl_answer make_check(const struct call *c)
@@ -112,7 +117,7 @@ static void add(const char *line)
     cfg_length += (size_t)sprintf((char *)cfg + cfg_length, "%s\r\n", line);
 }
 
-/* The largest configuration: every channel, eight rates. */
+/* The largest configuration: every channel, eight rates; spaces before some of its numbers. */
 static void make_configuration(void)
 {
     char line[200];
@@ -124,7 +129,7 @@ static void make_configuration(void)
         add(line);
     }
     for (int k = 1; k <= D; k++) {
-        sprintf(line, "%d,Trip,,,0", k);
+        sprintf(line, " %d,Trip,,,0", k);
         add(line);
     }
     add("50");
@@ -181,14 +186,15 @@ static size_t deepest_of(struct call call, uint32_t numbers)
 int main(void)
 {
     static const struct call config = {"zl_config", make_config, 0, 0, ZL_CONFIG_PLACES, {0, 0, 0, 0}};
+    static const struct call write_config = {"zl_write_config", make_write_config, 0, 0, sizeof out, {0, 0, 0, 0}};
     static const struct call check = {"zl_check", make_check, 0, 0, 0, {0, 0, 0, 0}};
     static const struct call show = {"zl_row", make_row, 0, 0, ZL_MOST_ROW_PLACES, {0, 0, 0, 0}};
     static const struct call write = {"zl_write_row", make_write_row, 0, 0, sizeof out, {0, 0, 0, 0}};
     static const struct call length = {"zl_length", make_length, 0, 0, 0, {0, 0, 0, 0}};
     static const struct call change = {"zl_change", make_change, 0, 0, sizeof out, {0, 0, 0, 0}};
     static const struct call reason = {"zl_reason", make_reason, 0, 0, sizeof out, {0, 0, 0, 0}};
-    const struct call *const calls[] = {&config, &check, &show, &write, &length, &change, &reason};
-    const uint32_t numbers[] = {1, 1, 1, 1, 3, 3, ZL_REFUSED_NO_ROOM};
+    const struct call *const calls[] = {&config, &write_config, &check, &show, &write, &length, &change, &reason};
+    const uint32_t numbers[] = {1, 3, 1, 1, 1, 3, 3, ZL_REFUSED_NO_ROOM};
     void *memory;
     if (posix_memalign(&memory, 4096, STACK_WORDS * sizeof *stack) != 0)
         return 1;
@@ -196,7 +202,7 @@ int main(void)
     make_configuration();
     make_files();
     for (size_t k = 0; k < sizeof calls / sizeof calls[0]; k++)
-        printf("%-14s%zu\n", calls[k]->name, deepest_of(*calls[k], numbers[k]));
+        printf("%-17s%zu\n", calls[k]->name, deepest_of(*calls[k], numbers[k]));
     free(memory);
     return 0;
 }

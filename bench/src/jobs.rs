@@ -6,10 +6,21 @@ use bench::Answer;
 
 const KINDS: [&str; 3] = ["ASCII", "binary", "binary32"];
 
+/// The kind for which configurations are written: binary, which theirs is too.
+const WRITTEN_KIND: u32 = 1;
+
+/// Which configuration is written.
+#[derive(Clone, Copy, PartialEq, Eq)]
+pub enum Source {
+    Own,
+    Longest,
+}
+
 /// One job on files of one kind.
 #[derive(Clone, Copy, PartialEq, Eq)]
 pub enum Job {
     Config,
+    WriteConfig(Source),
     Check(u32),
     Show(u32),
     Write(u32),
@@ -19,7 +30,7 @@ pub enum Job {
 impl Job {
     /// Every job, in the order of the tables.
     pub fn all() -> Vec<Job> {
-        let mut jobs = vec![Job::Config];
+        let mut jobs = vec![Job::Config, Job::WriteConfig(Source::Own), Job::WriteConfig(Source::Longest)];
         jobs.extend((0..3).map(Job::Check));
         jobs.extend((0..3).map(Job::Show));
         jobs.extend((0..3).map(Job::Write));
@@ -30,6 +41,7 @@ impl Job {
     pub fn name(self) -> &'static str {
         match self {
             Job::Config => "config",
+            Job::WriteConfig(_) => "write-config",
             Job::Check(_) => "check",
             Job::Show(_) => "show",
             Job::Write(_) => "write",
@@ -39,7 +51,8 @@ impl Job {
 
     pub fn kinds(self) -> String {
         match self {
-            Job::Config => "text".to_string(),
+            Job::Config | Job::WriteConfig(Source::Own) => "text".to_string(),
+            Job::WriteConfig(Source::Longest) => "longest text".to_string(),
             Job::Check(kind) | Job::Show(kind) | Job::Write(kind) => KINDS[kind as usize].to_string(),
             Job::Change(old, new) => format!("{} to {}", KINDS[old as usize], KINDS[new as usize]),
         }
@@ -48,10 +61,15 @@ impl Job {
     /// Whether text is read or written.
     pub fn has_text(self) -> bool {
         match self {
-            Job::Config => true,
+            Job::Config | Job::WriteConfig(_) => true,
             Job::Check(kind) | Job::Show(kind) | Job::Write(kind) => kind == 0,
             Job::Change(old, new) => old == 0 || new == 0,
         }
+    }
+
+    /// Whether the recording has what the job needs.
+    pub fn fits(self, recording: &Recording) -> bool {
+        self != Job::WriteConfig(Source::Longest) || recording.longest_cfg.is_some()
     }
 
     /// How many calls of one pass each walk the whole file.
@@ -62,12 +80,13 @@ impl Job {
         }
     }
 
-    /// The bytes of one pass that reported `length`: read by config, check and change; walked by show, in each of its
-    /// calls; written by write.
+    /// The bytes of one pass that reported `length`: read by config, write-config, check and change; walked by show, in
+    /// each of its calls; written by write.
     pub fn bytes(self, recording: &Recording, length: u64) -> u64 {
         let file = |kind: u32| recording.files[kind as usize].len() as u64;
         match self {
             Job::Config => recording.cfg.len() as u64,
+            Job::WriteConfig(source) => source_cfg(recording, source).len() as u64,
             Job::Check(kind) | Job::Show(kind) | Job::Change(kind, _) => file(kind) * self.walks(recording),
             Job::Write(_) => length,
         }
@@ -76,9 +95,17 @@ impl Job {
     /// The rows that one pass goes through; a configuration counts as one.
     pub fn rows_walked(self, recording: &Recording) -> u64 {
         match self {
-            Job::Config => 1,
+            Job::Config | Job::WriteConfig(_) => 1,
             _ => u64::from(recording.rows) * self.walks(recording),
         }
+    }
+}
+
+/// The configuration that is written.
+fn source_cfg(recording: &Recording, source: Source) -> &[u8] {
+    match source {
+        Source::Own => &recording.cfg,
+        Source::Longest => recording.longest_cfg.as_deref().unwrap_or_default(),
     }
 }
 
@@ -119,6 +146,9 @@ pub fn pass(job: Job, program: &Program, recording: &Recording, buffers: &mut Bu
     let data = |kind: u32| &files[kind as usize][..];
     match job {
         Job::Config => accepted((program.config)(cfg, &mut buffers.shown)),
+        Job::WriteConfig(source) => {
+            accepted((program.write_config)(source_cfg(recording, source), WRITTEN_KIND, &mut buffers.out))
+        }
         Job::Check(kind) => accepted((program.check)(a, d, rows, kind, data(kind))),
         Job::Show(kind) => {
             let each = |n| accepted((program.row)(a, d, rows, kind, data(kind), n, &mut buffers.shown));

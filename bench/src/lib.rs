@@ -1,8 +1,10 @@
 //! Three programs for the same jobs on recordings: the library, the second program and a tuned one.
 
+mod filled;
 pub mod library;
 pub mod tuned;
 
+pub use filled::filled_up;
 pub use zagalume_raw::Answer;
 
 /// An answer of the second program, in the form that the library gives it.

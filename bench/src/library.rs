@@ -1,13 +1,18 @@
 //! The library's exported calls, lent slices as it wants them: a pointer, then a length.
 
 use crate::Answer;
-use zagalume_raw::{zl_change, zl_check, zl_config, zl_length, zl_row, zl_write_row};
+use zagalume_raw::{zl_change, zl_check, zl_config, zl_length, zl_row, zl_write_config, zl_write_row};
 
 // Each call below lends live slices for the time of the call, which is all that the library asks of its caller.
 
 /// Reads a configuration.
 pub fn config(cfg: &[u8], shown: &mut [i64]) -> Answer {
     unsafe { zl_config(cfg.as_ptr(), cfg.len(), shown.as_mut_ptr(), shown.len()) }
+}
+
+/// Writes a configuration for a kind.
+pub fn write_config(cfg: &[u8], kind: u32, out: &mut [u8]) -> Answer {
+    unsafe { zl_write_config(cfg.as_ptr(), cfg.len(), kind, out.as_mut_ptr(), out.len()) }
 }
 
 /// Checks a data file.

@@ -14,7 +14,7 @@ use recording::Recording;
 use std::process::ExitCode;
 use std::time::{Duration, Instant};
 
-const USAGE: &str = "bench [--rows N] [--job config|check|show|write|change] [--layout A,D] [--quick]";
+const USAGE: &str = "bench [--rows N] [--job config|write-config|check|show|write|change] [--layout A,D] [--quick]";
 
 const LAYOUTS: [(u32, u32); 3] = [(1, 1), (8, 16), (96, 256)];
 
@@ -86,7 +86,7 @@ fn run(choice: &Choice) -> Vec<Figure> {
             let recording = Recording::new(a, d, rows, machine::free_memory(), choice.most_shown());
             let mut buffers = Buffers::new(&recording);
             for job in Job::all() {
-                if choice.job.as_ref().is_some_and(|name| name != job.name()) {
+                if choice.job.as_ref().is_some_and(|name| name != job.name()) || !job.fits(&recording) {
                     continue;
                 }
                 let figure = measure(job, &recording, &mut buffers, choice.effort());
@@ -99,8 +99,10 @@ fn run(choice: &Choice) -> Vec<Figure> {
 }
 
 const NOTES: &str = "\
-- MB is 1,000,000 bytes: of the configuration for config; of the file for check and change; of the file for each row
-  shown, since every call checks the whole file; written for write
+- MB is 1,000,000 bytes: of the configuration for config and write-config; of the file for check and change; of the file
+  for each row shown, since every call checks the whole file; written for write
+- write-config: to binary, which the configuration's own kind is; of the largest layout also one of 65,536 bytes, with
+  long names and a space before each real
 - the programs take turns, round after round; the best round of each counts; a pass of over 8 seconds is taken once
 - buffers: input and output are made and touched before any timing and used again in every pass, so no page is new to a
   pass; the output is filled anew before each program's first pass, whose bytes are compared, and not cleared after that

@@ -7,6 +7,7 @@ use bench::{library, of_second, tuned, Answer};
 pub struct Program {
     pub name: &'static str,
     pub config: fn(&[u8], &mut [i64]) -> Answer,
+    pub write_config: fn(&[u8], u32, &mut [u8]) -> Answer,
     pub check: fn(u32, u32, u32, u32, &[u8]) -> Answer,
     pub row: fn(u32, u32, u32, u32, &[u8], u32, &mut [i64]) -> Answer,
     pub write_row: fn(u32, u32, u32, u32, u32, &[i64], &mut [u8]) -> Answer,
@@ -25,6 +26,7 @@ pub const PROGRAMS: [Program; COUNT] = [
     Program {
         name: "library",
         config: library::config,
+        write_config: library::write_config,
         check: library::check,
         row: library::row,
         write_row: library::write_row,
@@ -33,6 +35,7 @@ pub const PROGRAMS: [Program; COUNT] = [
     Program {
         name: "second",
         config: |cfg, shown| of_second(second::config(cfg, shown)),
+        write_config: |cfg, kind, out| of_second(second::write_config(cfg, kind, out)),
         check: |a, d, rows, kind, data| of_second(second::check(a, d, rows, kind, data)),
         row: |a, d, rows, kind, data, n, shown| of_second(second::row(a, d, rows, kind, data, n, shown)),
         write_row: |a, d, rows, kind, n, row, out| of_second(second::write_row(a, d, rows, kind, n, row, out)),
@@ -41,6 +44,7 @@ pub const PROGRAMS: [Program; COUNT] = [
     Program {
         name: "tuned",
         config: tuned::config,
+        write_config: tuned::write_config,
         check: tuned::check,
         row: tuned::row,
         write_row: tuned::write_row,

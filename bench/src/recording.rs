@@ -1,10 +1,13 @@
 //! The recordings that are measured: the same ones in every run.
 
-use bench::{tuned, Answer};
+use bench::{filled_up, tuned, Answer};
 use dice::Dice;
 
 /// Rows kept in memory as a source for writing.
 const KEPT_ROWS: u32 = 1_000;
+
+/// The most bytes of a configuration.
+const MOST_CFG_BYTES: usize = 65_536;
 
 /// One layout's configuration, its data file in all three kinds, and some of its rows.
 pub struct Recording {
@@ -14,6 +17,8 @@ pub struct Recording {
     /// Rows asked for; more than `rows` where memory is short.
     pub wanted_rows: u32,
     pub cfg: Vec<u8>,
+    /// Of the largest layout, which alone has room for it: a configuration of the most bytes that there may be.
+    pub longest_cfg: Option<Vec<u8>>,
     /// By the kind's number: ASCII, binary, binary32.
     pub files: [Vec<u8>; 3],
     pub kept: Vec<Vec<i64>>,
@@ -46,9 +51,9 @@ fn rows_that_fit(a: u32, d: u32, wanted: u32, memory: u64) -> u32 {
 }
 
 impl Recording {
-    /// Room for any file of this layout and number of rows.
+    /// Room for any file of this layout and number of rows, and for any configuration.
     pub fn most_bytes(&self) -> usize {
-        most_bytes(self.a, self.d, self.rows).into_iter().max().unwrap_or(0) as usize
+        most_bytes(self.a, self.d, self.rows).into_iter().fold(MOST_CFG_BYTES, |most, bytes| most.max(bytes as usize))
     }
 
     /// Makes a recording, of fewer rows where `memory` bytes do not hold it. All rows are to be shown where there are
@@ -75,7 +80,9 @@ impl Recording {
         for (file, end) in files.iter_mut().zip(ends) {
             file.truncate(end);
         }
-        Recording { a, d, rows, wanted_rows, cfg: configuration(a, d, rows), files, kept, shown }
+        let cfg = configuration(a, d, rows);
+        let longest_cfg = ((a, d) == (96, 256)).then(|| longest(&cfg));
+        Recording { a, d, rows, wanted_rows, cfg, longest_cfg, files, kept, shown }
     }
 }
 
@@ -110,4 +117,18 @@ fn configuration(a: u32, d: u32, rows: u32) -> Vec<u8> {
     }
     lines.extend(["BINARY", "1.0", "+1h00,+1h00", "0,3", ""].map(str::to_string));
     lines.join("\r\n").into_bytes()
+}
+
+/// The configuration with a space before each real of its channels, and with long names and circuits, so that it has
+/// the most bytes.
+fn longest(cfg: &[u8]) -> Vec<u8> {
+    let spaced = |line: &str| {
+        let mut fields: Vec<String> = line.split(',').map(str::to_string).collect();
+        if fields.len() == 13 {
+            fields[5..12].iter_mut().for_each(|real| real.insert(0, ' '));
+        }
+        fields.join(",")
+    };
+    let lines: Vec<String> = String::from_utf8_lossy(cfg).split("\r\n").map(spaced).collect();
+    filled_up(lines.join("\r\n").as_bytes(), MOST_CFG_BYTES)
 }

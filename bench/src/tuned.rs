@@ -8,9 +8,11 @@ mod config;
 mod numbers;
 mod plain;
 mod text;
+mod write_config;
 
 pub use change::{change, length};
 pub use config::config;
+pub use write_config::write_config;
 
 use crate::Answer;
 

@@ -119,3 +119,38 @@ fn configurations_are_read_alike() {
         assert_eq!(tuned::config(cfg, &mut shown), of_second(second::config(cfg, &mut [0; 34])));
     }
 }
+
+#[test]
+fn configurations_are_written_alike() {
+    let (mut dice, mut met) = (Dice::new(6), Met([0; 18]));
+    for _ in 0..100_000 {
+        let cfg = made::configuration(&mut dice);
+        let kind = if dice.once_in(20) { dice.pick(&[3, 4, u32::MAX]) } else { dice.below(3) as u32 };
+        written_alike(&cfg, kind, &mut met);
+    }
+    met.all_of(&[0, 2, 3, 4, 5, 6, 7, 8, 9, 10, 17]);
+}
+
+/// A configuration written by both with ample, exact and too little room.
+fn written_alike(cfg: &[u8], kind: u32, met: &mut Met) {
+    let tuned = |out: &mut [u8]| tuned::write_config(cfg, kind, out);
+    let second = |out: &mut [u8]| second::write_config(cfg, kind, out);
+    let length = compare(cfg.len() + 8, 0xEE, met, tuned, second).length as usize;
+    compare(length, 0xEE, met, tuned, second);
+    compare(length.saturating_sub(1), 0xEE, met, tuned, second);
+}
+
+#[test]
+fn the_longest_configurations_are_written_alike() {
+    let (mut dice, mut met) = (Dice::new(7), Met([0; 18]));
+    for size in 65_528..=65_538 {
+        for word in ["ascii", "BINARY", "Binary32"] {
+            let cfg = made::configuration_of_size(&mut dice, size, word);
+            assert_eq!(cfg.len(), size);
+            for cfg in [&cfg[..], &cfg[..size - 2]] {
+                (0..4).for_each(|kind| written_alike(cfg, kind, &mut met));
+            }
+        }
+    }
+    met.all_of(&[0, 1, 10, 17]);
+}

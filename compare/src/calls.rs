@@ -1,4 +1,4 @@
-//! The calls that read a data file, each as a case.
+//! The calls that read a data file, and the one that writes a configuration, each as a case.
 
 use crate::case::{Case, Layout};
 use crate::walk::Walk;
@@ -42,4 +42,19 @@ pub fn every_call(walk: &mut Walk, layout: Layout, file: &dyn Fn() -> Vec<u8>) {
 pub fn length_and_change(walk: &mut Walk, layout: Layout, new_kind: u32, file: &dyn Fn() -> Vec<u8>) {
     walk.case(|| Case::Length { layout, file: file(), new_kind });
     walk.case(|| change(layout, file(), new_kind, 0));
+}
+
+/// Bytes that a configuration has once it is written; where it is refused, some few.
+pub fn rewritten_length(cfg: &[u8], kind: u32) -> usize {
+    let mut out = vec![0; cfg.len() + 5];
+    match second::write_config(cfg, kind, &mut out) {
+        answer if answer.number == 0 => answer.length as usize,
+        _ => 16,
+    }
+}
+
+/// A configuration written into just the room that it needs.
+pub fn write_config(cfg: Vec<u8>, kind: u32) -> Case {
+    let room = rewritten_length(&cfg, kind);
+    Case::WriteConfig { cfg, kind, room }
 }

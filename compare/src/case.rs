@@ -32,6 +32,7 @@ impl Layout {
 #[derive(Debug, Clone, PartialEq, Eq)]
 pub enum Case {
     Config { cfg: Vec<u8>, places: usize },
+    WriteConfig { cfg: Vec<u8>, kind: u32, room: usize },
     Check { layout: Layout, file: Vec<u8> },
     Row { layout: Layout, file: Vec<u8>, n: u32, places: usize },
     WriteRow { layout: Layout, n: u32, row: Vec<i64>, room: usize },
@@ -41,11 +42,12 @@ pub enum Case {
 }
 
 /// The names of the calls, in the order of `Case::call`.
-pub const CALLS: [&str; 7] = ["config", "check", "row", "write_row", "length", "change", "reason"];
+pub const CALLS: [&str; 8] = ["config", "write_config", "check", "row", "write_row", "length", "change", "reason"];
 
 /// The refusals that each call can give, in the order of `CALLS`.
-pub const POSSIBLE: [&[u32]; 7] = [
+pub const POSSIBLE: [&[u32]; 8] = [
     &[1, 2, 3, 4, 5, 6, 7, 8, 9, 17],
+    &[1, 2, 3, 4, 5, 6, 7, 8, 9, 10, 17],
     &[10, 11, 12, 13, 14],
     &[10, 11, 12, 13, 14, 15, 17],
     &[10, 15, 16, 17],
@@ -59,12 +61,13 @@ impl Case {
     pub fn call(&self) -> usize {
         match self {
             Case::Config { .. } => 0,
-            Case::Check { .. } => 1,
-            Case::Row { .. } => 2,
-            Case::WriteRow { .. } => 3,
-            Case::Length { .. } => 4,
-            Case::Change { .. } => 5,
-            Case::Reason { .. } => 6,
+            Case::WriteConfig { .. } => 1,
+            Case::Check { .. } => 2,
+            Case::Row { .. } => 3,
+            Case::WriteRow { .. } => 4,
+            Case::Length { .. } => 5,
+            Case::Change { .. } => 6,
+            Case::Reason { .. } => 7,
         }
     }
 
@@ -72,7 +75,8 @@ impl Case {
     pub fn room(&self) -> usize {
         match self {
             Case::Config { places, .. } | Case::Row { places, .. } => 8 * places,
-            Case::WriteRow { room, .. } | Case::Change { room, .. } | Case::Reason { room, .. } => *room,
+            Case::WriteConfig { room, .. } | Case::WriteRow { room, .. } => *room,
+            Case::Change { room, .. } | Case::Reason { room, .. } => *room,
             Case::Check { .. } | Case::Length { .. } => 0,
         }
     }
@@ -83,7 +87,8 @@ impl Case {
             Case::Config { .. } => 8 * 34,
             Case::Row { layout, .. } => 8 * layout.places(),
             Case::Check { .. } | Case::Length { .. } => 0,
-            Case::WriteRow { .. } | Case::Change { .. } | Case::Reason { .. } => length as usize,
+            Case::WriteConfig { .. } | Case::WriteRow { .. } => length as usize,
+            Case::Change { .. } | Case::Reason { .. } => length as usize,
         }
     }
 }
@@ -100,6 +105,7 @@ impl Display for Case {
         write!(f, "{} ", CALLS[self.call()])?;
         match self {
             Case::Config { cfg, places } => write!(f, "{places} {}", spelled(cfg)),
+            Case::WriteConfig { cfg, kind, room } => write!(f, "{kind} {room} {}", spelled(cfg)),
             Case::Check { layout, file } => write!(f, "{layout} {}", spelled(file)),
             Case::Row { layout, file, n, places } => write!(f, "{layout} {n} {places} {}", spelled(file)),
             Case::WriteRow { layout, n, row, room } => write!(f, "{layout} {n} {room} {}", listed(row)),
@@ -119,6 +125,7 @@ pub fn parse_layout(w: &mut Words) -> Option<Layout> {
 pub fn parse(w: &mut Words) -> Option<Case> {
     Some(match w.word()? {
         "config" => Case::Config { places: w.number()?, cfg: w.bytes()? },
+        "write_config" => Case::WriteConfig { kind: w.number()?, room: w.number()?, cfg: w.bytes()? },
         "check" => Case::Check { layout: parse_layout(w)?, file: w.bytes()? },
         "row" => Case::Row { layout: parse_layout(w)?, n: w.number()?, places: w.number()?, file: w.bytes()? },
         "write_row" => {

@@ -3,7 +3,7 @@
 use crate::case::Case;
 use crate::damage::{at_places, spliced, Damage, BYTES};
 use crate::draft::{Draft, FILLED, LEAST, RECORDING};
-use crate::rules::{Rule, LIMITS};
+use crate::rules::{cased, Rule, LIMITS};
 use crate::walk::Walk;
 
 /// A configuration with room for all that is shown.
@@ -252,13 +252,8 @@ fn limits(walk: &mut Walk, draft: &Draft) {
 fn kinds(walk: &mut Walk, draft: &Draft) {
     let (line, field) = draft.place(Rule::Kind);
     for word in ["ascii", "binary", "binary32"] {
-        for mask in 0..1u32 << word.len() {
-            let letter =
-                |(k, letter): (usize, u8)| if mask >> k & 1 == 1 { letter.to_ascii_uppercase() } else { letter };
-            walk.case(|| {
-                let word: Vec<u8> = word.bytes().enumerate().map(letter).collect();
-                config(draft.with(line, field, &word).bytes())
-            });
+        for mask in 0..1 << word.len() {
+            walk.case(|| config(draft.of_kind(&cased(word, mask)).bytes()));
         }
         for at in 0..word.len() {
             for byte in 0..=255 {
@@ -324,28 +319,12 @@ fn rates(walk: &mut Walk) {
     }
 }
 
-/// An accepted configuration of so many bytes: names of channels fill it up.
-fn of_size(size: usize) -> Vec<u8> {
-    let mut draft = Draft::plain(96, 256, &[2]);
-    let mut left = size - draft.bytes().len();
-    for line in 2..2 + 96 + 256 {
-        let name = &mut draft.lines[line][1].bytes;
-        let more = left.min(128 - name.len());
-        name.resize(name.len() + more, b'n');
-        left -= more;
-        let circuit = left.min(64);
-        draft.lines[line][3].bytes.resize(circuit, b'c');
-        left -= circuit;
-    }
-    draft.bytes()
-}
-
 /// Files about the most bytes: accepted ones, and others filled with one byte.
 fn sizes(walk: &mut Walk) {
     for size in [65_534, 65_535, 65_536, 65_537, 65_538, 80_000] {
         for cut in 0..=4 {
             walk.case(|| {
-                let mut cfg = of_size(size);
+                let mut cfg = Draft::plain(96, 256, &[2]).filled_up(size);
                 cfg.truncate(size - cut);
                 config(cfg)
             });

@@ -3,6 +3,9 @@
 use crate::rules::{all_lines, Rule, LIMITS};
 use dice::Dice;
 
+/// The most bytes of a configuration.
+pub const MOST_BYTES: usize = 65_536;
+
 /// One recording, whole: the one that the rules give.
 pub const RECORDING: &str = "Bench 2,R7,2013
 2,1A,1D
@@ -57,6 +60,20 @@ B,0";
 pub struct Field {
     pub rule: Rule,
     pub bytes: Vec<u8>,
+}
+
+impl Field {
+    /// Whether one space more may stand before it. No number may be spaces alone.
+    fn takes_a_space(&self) -> bool {
+        let text = matches!(self.rule, Rule::Text(..));
+        self.bytes.len() < self.rule.most() && (text || self.rule.is_number() && !self.bytes.is_empty())
+    }
+
+    /// Spaces before it up to so many characters.
+    pub fn widen(&mut self, width: usize) {
+        let spaces = width.saturating_sub(self.bytes.len());
+        self.bytes.splice(0..0, vec![b' '; spaces]);
+    }
 }
 
 /// A configuration as lines of fields.
@@ -119,6 +136,46 @@ impl Draft {
         let mut draft = self.clone();
         draft.lines[line][field].bytes = bytes.to_vec();
         draft
+    }
+
+    /// The same with a kind's word.
+    pub fn of_kind(&self, word: &str) -> Draft {
+        let (line, field) = self.place(Rule::Kind);
+        self.with(line, field, word.as_bytes())
+    }
+
+    /// The same with a space before each number, code and text that may have one more.
+    pub fn spaced(&self) -> Draft {
+        let mut draft = self.clone();
+        for field in draft.lines.iter_mut().flatten().filter(|field| field.takes_a_space()) {
+            field.widen(field.bytes.len() + 1);
+        }
+        draft
+    }
+
+    /// Some numbers and codes with up to as many spaces before them as they may have.
+    pub fn space_out(&mut self, dice: &mut Dice) {
+        for field in self.lines.iter_mut().flatten() {
+            if field.rule.is_number() && field.takes_a_space() && dice.once_in(2) {
+                let more = dice.index(field.rule.most() - field.bytes.len() + 1);
+                field.widen(field.bytes.len() + more);
+            }
+        }
+    }
+
+    /// The bytes of the same with longer names and circuits of its channels, until there are so many.
+    pub fn filled_up(mut self, size: usize) -> Vec<u8> {
+        let mut left = size - self.bytes().len();
+        let channel = |line: &&mut Vec<Field>| line.first().is_some_and(|field| field.rule == Rule::Index);
+        for line in self.lines.iter_mut().filter(channel) {
+            for (field, byte) in [(1, b'n'), (3, b'c')] {
+                let Field { rule, bytes } = &mut line[field];
+                let more = left.min(rule.most() - bytes.len());
+                bytes.resize(bytes.len() + more, byte);
+                left -= more;
+            }
+        }
+        self.bytes()
     }
 
     /// The first field of a rule: its line and place.

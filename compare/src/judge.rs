@@ -2,14 +2,20 @@
 
 use crate::buffer::{bytes_of, Buffer};
 use crate::case::{Case, Layout, POSSIBLE};
+use crate::configs::config;
+use crate::draft::MOST_BYTES;
 use crate::lent::{Flush, Lent};
 use crate::library;
+use crate::rules::is_bare;
 use crate::watch;
 use crate::words;
 use second::Answer;
 
 /// Bytes of a file above which a change is followed by no more than a length and a check, so that it does not take seconds.
 const LARGE: usize = 1 << 20;
+
+/// The place in which a configuration shows its kind.
+const SHOWN_KIND: usize = 28;
 
 /// What a case must answer, where that is known by itself.
 #[derive(Debug, Clone)]
@@ -36,7 +42,7 @@ pub struct Judge {
 /// What lies in the buffer lent for reading.
 fn input_of(case: &Case) -> &[u8] {
     match case {
-        Case::Config { cfg, .. } => cfg,
+        Case::Config { cfg, .. } | Case::WriteConfig { cfg, .. } => cfg,
         Case::Check { file, .. } | Case::Row { file, .. } => file,
         Case::Length { file, .. } | Case::Change { file, .. } => file,
         Case::WriteRow { row, .. } => bytes_of(row),
@@ -99,6 +105,7 @@ impl Judge {
         let out = &mut self.after;
         match case {
             Case::Config { cfg, .. } => second::config(cfg, out.places_mut()),
+            Case::WriteConfig { cfg, kind, .. } => second::write_config(cfg, *kind, out.bytes_mut()),
             Case::Check { layout: l, file } => second::check(l.a, l.d, l.rows, l.kind, file),
             Case::Row { layout: l, file, n, .. } => second::row(l.a, l.d, l.rows, l.kind, file, *n, out.places_mut()),
             Case::WriteRow { layout: l, n, row, .. } => {
@@ -169,6 +176,7 @@ impl Judge {
                 self.follow_change(*layout, file, *new_kind, *room, answer)?
             }
             Case::WriteRow { layout, n, row, .. } => self.follow_written(*layout, *n, row, answer)?,
+            Case::WriteConfig { cfg, kind, room } => self.follow_config(cfg, *kind, *room, answer)?,
             _ => (),
         }
         Ok(answer)
@@ -260,6 +268,53 @@ impl Judge {
         let file = self.written(answer.length as usize);
         if self.row(Layout { rows: 1, ..layout }, &file, 1)? != row[..layout.places()] {
             return Err(String::from("the written row shows another"));
+        }
+        Ok(())
+    }
+
+    /// What a configuration shows, and the answer to it.
+    fn shown(&mut self, cfg: &[u8]) -> Result<(Answer, Vec<i64>), String> {
+        let answer = self.compare(&config(cfg.to_vec()))?;
+        Ok((answer, self.after.places_mut().to_vec()))
+    }
+
+    /// What the reader refuses is refused alike when it is to be written, and 17 is told of a result that is longer than the room.
+    fn follow_config(&mut self, cfg: &[u8], kind: u32, room: usize, found: Answer) -> Result<(), String> {
+        let result = self.written(found.length as usize);
+        let (read, mut shown) = self.shown(cfg)?;
+        if read.number != 0 {
+            let alike = || format!("write_config {}, config {}", spelled(found), spelled(read));
+            return if read == found { Ok(()) } else { Err(alike()) };
+        }
+        match found.number {
+            0 => {
+                shown[SHOWN_KIND] = i64::from(kind);
+                self.follow_rewritten(result, kind, &shown)
+            }
+            17 => {
+                let ample = self.yes(&Case::WriteConfig { cfg: cfg.to_vec(), kind, room: MOST_BYTES })?;
+                let long = ample.length as usize > room;
+                long.then_some(()).ok_or_else(|| format!("write_config has room, and answers {}", spelled(found)))
+            }
+            _ => Ok(()),
+        }
+    }
+
+    /// A configuration as it was written shows this, has no space before a number or a code, and stays as it is when it is written again.
+    fn follow_rewritten(&mut self, result: Vec<u8>, kind: u32, shown: &[i64]) -> Result<(), String> {
+        let (read, new_shown) = self.shown(&result)?;
+        if read.number != 0 || new_shown != shown {
+            let places = words::listed(&new_shown);
+            return Err(format!("the written configuration is read {}, shows {places}", spelled(read)));
+        }
+        let [a, d, rates] = [shown[0], shown[1], shown[2]].map(|count| count as usize);
+        if !is_bare(&result, a, d, rates) {
+            return Err(format!("there is a space before a number, or no CR LF, in {}", words::spelled(&result)));
+        }
+        let room = result.len();
+        self.yes(&Case::WriteConfig { cfg: result.clone(), kind, room })?;
+        if self.written(room) != result {
+            return Err(String::from("written again, the configuration is another"));
         }
         Ok(())
     }

@@ -8,9 +8,10 @@ use crate::words::{Names, Words};
 use second::Answer;
 
 /// The files, in an order that stays.
-const FILES: [(&str, &str); 4] = [
+const FILES: [(&str, &str); 5] = [
     ("vectors", include_str!("../kept/vectors")),
     ("configurations", include_str!("../kept/configurations")),
+    ("rewritten", include_str!("../kept/rewritten")),
     ("data", include_str!("../kept/data")),
     ("changes", include_str!("../kept/changes")),
 ];
@@ -104,7 +105,9 @@ fn call(w: &mut Words, line: &str) -> Option<Known> {
             let places = w.numbers().filter(|places| 8 * places.len() == case.reported(0))?;
             expected = shows(places, line);
         }
-        Case::WriteRow { .. } | Case::Change { .. } | Case::Reason { .. } => expected = writes(w.bytes()?, line),
+        Case::WriteConfig { .. } | Case::WriteRow { .. } | Case::Change { .. } | Case::Reason { .. } => {
+            expected = writes(w.bytes()?, line)
+        }
     }
     Some((case, expected))
 }

@@ -2,7 +2,7 @@
 
 use crate::case::Case;
 use second::Answer;
-use zagalume_raw::{zl_change, zl_check, zl_config, zl_length, zl_reason, zl_row, zl_write_row};
+use zagalume_raw::{zl_change, zl_check, zl_config, zl_length, zl_reason, zl_row, zl_write_config, zl_write_row};
 
 /// Asks the library.
 ///
@@ -11,6 +11,7 @@ use zagalume_raw::{zl_change, zl_check, zl_config, zl_length, zl_reason, zl_row,
 pub unsafe fn ask(case: &Case, input: *const u8, output: *mut u8) -> Answer {
     let answer = match case {
         Case::Config { cfg, places } => zl_config(input, cfg.len(), output.cast(), *places),
+        Case::WriteConfig { cfg, kind, room } => zl_write_config(input, cfg.len(), *kind, output, *room),
         Case::Check { layout: l, file } => zl_check(l.a, l.d, l.rows, l.kind, input, file.len()),
         Case::Row { layout: l, file, n, places } => {
             zl_row(l.a, l.d, l.rows, l.kind, input, file.len(), *n, output.cast(), *places)

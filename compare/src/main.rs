@@ -14,6 +14,7 @@ mod lent;
 mod library;
 mod misfits;
 mod random;
+mod rewritten;
 mod rules;
 mod seams;
 mod spellings;
@@ -83,6 +84,7 @@ fn walk_family(walk: &mut Walk, family: Family, settings: &Settings, random: u64
         Family::Kept => kept::walk(walk),
         Family::Systematic => {
             configs::walk(walk);
+            rewritten::walk(walk);
             data::walk(walk);
             seams::walk(walk);
             spellings::walk(walk);
@@ -126,7 +128,7 @@ impl Worker {
         watch::begin(number);
         self.found.cases += 1;
         match self.judge.judge(case, expected, dice::mix(number.packed())) {
-            Ok(answer) => self.found.tally.count(number.family, case.call(), answer),
+            Ok(answer) => self.found.tally.count(number.family, case, answer),
             Err(what) => {
                 self.found.differ += 1;
                 if self.found.said.len() < PRINTED {

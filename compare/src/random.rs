@@ -1,6 +1,6 @@
 //! Random cases: a good file, damaged up to four times, and arguments near those that go with it.
 
-use crate::calls::needed;
+use crate::calls::{needed, rewritten_length};
 use crate::case::{Case, Layout};
 use crate::damage;
 use crate::data::{ENDINGS, FIELDS};
@@ -12,7 +12,8 @@ use dice::Dice;
 pub fn case(seed: u64, index: u64) -> Case {
     let dice = &mut Dice::of(seed, index);
     match dice.below(16) {
-        0..=5 => config(dice),
+        0..=3 => config(dice),
+        4..=5 => write_config(dice),
         6..=7 => check(dice),
         8..=9 => row(dice),
         10..=11 => write_row(dice),
@@ -46,8 +47,46 @@ fn near(dice: &mut Dice, exact: usize) -> usize {
 }
 
 fn config(dice: &mut Dice) -> Case {
-    let mut draft = Draft::random(dice);
+    let draft = Draft::random(dice);
     let damages = damages(dice);
+    let mut cfg = damaged(dice, draft, damages);
+    if dice.once_in(2000) {
+        cfg.resize(65_530 + dice.index(10), b' ');
+    }
+    let places = if dice.once_in(4) { near(dice, 34) } else { 34 };
+    Case::Config { cfg, places }
+}
+
+/// A configuration that is accepted most often, many with spaces before their numbers, and a kind and room near what it needs.
+fn write_config(dice: &mut Dice) -> Case {
+    let cfg = if dice.once_in(400) { longest(dice) } else { shorter(dice) };
+    let kind = if dice.once_in(16) { dice.pick(&[3, 4, 256, u32::MAX]) } else { dice.below(3) as u32 };
+    let exact = rewritten_length(&cfg, kind);
+    Case::WriteConfig { room: near(dice, exact), cfg, kind }
+}
+
+/// A configuration, damaged in one half of the cases, with spaces before its numbers in the other.
+fn shorter(dice: &mut Dice) -> Vec<u8> {
+    let mut draft = Draft::random(dice);
+    if dice.once_in(2) {
+        draft.space_out(dice);
+        return damaged(dice, draft, 0);
+    }
+    let damages = damages(dice);
+    damaged(dice, draft, damages)
+}
+
+/// A configuration about as long as one may be, of any kind, with and without its last CR LF.
+fn longest(dice: &mut Dice) -> Vec<u8> {
+    let plain = Draft::plain(96, 256, &[2]).of_kind(dice.pick(&["ascii", "Binary", "BINARY32"]));
+    let draft = if dice.once_in(4) { plain.spaced() } else { plain };
+    let mut cfg = draft.filled_up(65_528 + dice.index(12));
+    cfg.truncate(cfg.len() - dice.pick(&[0, 2]));
+    cfg
+}
+
+/// The bytes of a draft, its fields and then its bytes damaged so many times; now and then the last line ends with the file.
+fn damaged(dice: &mut Dice, mut draft: Draft, damages: u64) -> Vec<u8> {
     let of_fields = if dice.once_in(3) { 0 } else { dice.below(damages + 1) };
     for _ in 0..of_fields {
         damage_fields(dice, &mut draft);
@@ -59,11 +98,7 @@ fn config(dice: &mut Dice) -> Case {
     if dice.once_in(4) && cfg.ends_with(b"\r\n") {
         cfg.truncate(cfg.len() - 2);
     }
-    if dice.once_in(2000) {
-        cfg.resize(65_530 + dice.index(10), b' ');
-    }
-    let places = if dice.once_in(4) { near(dice, 34) } else { 34 };
-    Case::Config { cfg, places }
+    cfg
 }
 
 /// One field or line of a configuration made another.

@@ -57,6 +57,17 @@ pub fn all_lines(a: usize, d: usize, rates: usize) -> Vec<LineRules> {
     lines
 }
 
+/// Whether a configuration with so many channels and rates has CR LF on each line, and no space before a number or a code.
+pub fn is_bare(cfg: &[u8], a: usize, d: usize, rates: usize) -> bool {
+    let lines = cfg.split_inclusive(|&byte| byte == b'\n');
+    let bare = |(rule, field): (&Rule, &[u8])| !rule.is_number() || !field.starts_with(b" ");
+    let bare_line = |(rules, line): (LineRules, &[u8])| {
+        line.ends_with(b"\r\n") && rules.iter().zip(line.split(|&byte| byte == b',')).all(bare)
+    };
+    let rules = all_lines(a, d, rates);
+    lines.clone().count() == rules.len() && rules.into_iter().zip(lines).all(bare_line)
+}
+
 /// Spellings that are no count, or count something else than they seem to.
 #[rustfmt::skip]
 const ODD_COUNTS: [&str; 24] = [
@@ -123,6 +134,15 @@ const CODES: [&str; 40] = [
     "-0", "+0", "5h60", "5h59", "005", "5h3", "5H30", "h30", "", " ", "      ", "+", "-", "5h", "5h300", "14h00",
     " 14h00", "- 5", "5 ", "1h1x", "1hx1", "5.5", "+-5", "99",
 ];
+
+/// A word with its letters large where the mask has a bit, the lowest for the first, and else small.
+pub fn cased(word: &str, mask: u32) -> String {
+    let letter = |(k, letter): (usize, char)| match mask >> k & 1 {
+        1 => letter.to_ascii_uppercase(),
+        _ => letter.to_ascii_lowercase(),
+    };
+    word.chars().enumerate().map(letter).collect()
+}
 
 /// One-character fields and what else may stand there.
 const ONES: [&str; 28] = [
@@ -195,6 +215,34 @@ const LONG: &str = match std::str::from_utf8(&[b'n'; 140]) {
 };
 
 impl Rule {
+    /// Whether the field is a number or a code, which may have spaces before it.
+    pub fn is_number(self) -> bool {
+        match self {
+            Rule::Total | Rule::Analogs | Rule::Statuses | Rule::Index | Rule::Real | Rule::Min | Rule::Max => true,
+            Rule::Frequency | Rule::Rates | Rule::Rate | Rule::LastRow | Rule::Multiplier => true,
+            Rule::Code | Rule::LocalCode => true,
+            Rule::Text(..) | Rule::Year | Rule::Scale | Rule::Normal | Rule::Date | Rule::Time => false,
+            Rule::Kind | Rule::Quality | Rule::Leap => false,
+        }
+    }
+
+    /// The most characters of the field.
+    pub fn most(self) -> usize {
+        match self {
+            Rule::Text(_, most) => most,
+            Rule::Scale | Rule::Normal | Rule::Quality | Rule::Leap => 1,
+            Rule::Rates => 3,
+            Rule::Year => 4,
+            Rule::Total | Rule::Index | Rule::Code | Rule::LocalCode => 6,
+            Rule::Analogs | Rule::Statuses => 7,
+            Rule::Kind => 8,
+            Rule::LastRow | Rule::Date => 10,
+            Rule::Min | Rule::Max => 13,
+            Rule::Time => 18,
+            Rule::Real | Rule::Frequency | Rule::Rate | Rule::Multiplier => 32,
+        }
+    }
+
     /// Two values that are refused: one for its form, and one for what it says or, where the rule allows whatever has the form, for the line that it makes.
     pub fn refused(self) -> [&'static str; 2] {
         match self {

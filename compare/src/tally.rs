@@ -1,24 +1,54 @@
 //! How often each call gave each answer.
 
-use crate::case::{CALLS, POSSIBLE};
+use crate::case::{Case, CALLS, POSSIBLE};
+use crate::draft::MOST_BYTES;
 use crate::walk::Family;
 use second::Answer;
 
-/// The numbers of answers: 0 for yes, 1 to 17 for no.
-const NUMBERS: usize = 18;
+/// What is counted of a call: 0 for yes, 1 to 17 for no, and `LONG_RESULT`.
+const COUNTED: usize = 19;
+
+/// The refusal 1 of a configuration that would be too long as it is written: the one that was read is not.
+const LONG_RESULT: usize = 18;
 
 /// Counts of answers by call and number, the random cases apart from the others.
 #[derive(Default, Clone)]
-pub struct Tally([[[u64; NUMBERS]; CALLS.len()]; 2]);
+pub struct Tally([[[u64; COUNTED]; CALLS.len()]; 2]);
 
 /// The random cases are counted apart.
 fn part(family: Family) -> usize {
     usize::from(family == Family::Random)
 }
 
+/// What an answer to a case is counted as.
+fn counted_as(case: &Case, answer: Answer) -> usize {
+    match case {
+        Case::WriteConfig { cfg, .. } if answer.number == 1 && cfg.len() <= MOST_BYTES => LONG_RESULT,
+        _ => answer.number as usize,
+    }
+}
+
+/// Whether a call can give what is counted so.
+fn can(call: usize, counted: usize) -> bool {
+    match counted {
+        0 => true,
+        LONG_RESULT => CALLS[call] == "write_config",
+        number => POSSIBLE[call].contains(&(number as u32)),
+    }
+}
+
+/// What is counted so, in words.
+fn name(counted: usize) -> String {
+    match counted {
+        0 => String::from("yes"),
+        LONG_RESULT => String::from("no 1 result"),
+        number => format!("no {number}"),
+    }
+}
+
 impl Tally {
-    pub fn count(&mut self, family: Family, call: usize, answer: Answer) {
-        self.0[part(family)][call][answer.number as usize] += 1;
+    pub fn count(&mut self, family: Family, case: &Case, answer: Answer) {
+        self.0[part(family)][case.call()][counted_as(case, answer)] += 1;
     }
 
     /// Adds what another thread counted.
@@ -32,10 +62,10 @@ impl Tally {
     /// Answers that a call can give and that no case got.
     pub fn missing(&self) -> Vec<String> {
         let mut missing = Vec::new();
-        for (call, name) in CALLS.iter().enumerate() {
-            for &number in [0].iter().chain(POSSIBLE[call]) {
-                if self.0.iter().all(|part| part[call][number as usize] == 0) {
-                    missing.push(format!("{name} never answered {number}"));
+        for (call, call_name) in CALLS.iter().enumerate() {
+            for counted in (0..COUNTED).filter(|&counted| can(call, counted)) {
+                if self.0.iter().all(|part| part[call][counted] == 0) {
+                    missing.push(format!("{call_name} never answered {}", name(counted)));
                 }
             }
         }
@@ -46,21 +76,19 @@ impl Tally {
     pub fn table(&self, random: bool) -> String {
         let part = &self.0[usize::from(random)];
         let mut text = String::from(if random { "random     " } else { "kept, syst." });
-        for name in CALLS {
-            text.push_str(&format!("{name:>11}"));
+        for call_name in CALLS {
+            text.push_str(&format!("{call_name:>13}"));
         }
-        for number in 0..NUMBERS {
-            let name = if number == 0 { String::from("yes") } else { format!("no {number}") };
-            text.push_str(&format!("\n{name:11}"));
-            for (call, possible) in part.iter().zip(POSSIBLE) {
-                let can = number == 0 || possible.contains(&(number as u32));
-                let word = if can { call[number].to_string() } else { String::from("-") };
-                text.push_str(&format!("{word:>11}"));
+        for counted in 0..COUNTED {
+            text.push_str(&format!("\n{:11}", name(counted)));
+            for (call, counts) in part.iter().enumerate() {
+                let word = if can(call, counted) { counts[counted].to_string() } else { String::from("-") };
+                text.push_str(&format!("{word:>13}"));
             }
         }
         text.push_str("\nall        ");
-        for call in part {
-            text.push_str(&format!("{:>11}", call.iter().sum::<u64>()));
+        for counts in part {
+            text.push_str(&format!("{:>13}", counts.iter().sum::<u64>()));
         }
         text
     }

@@ -50,7 +50,8 @@ static void print_rows(zl_layout layout, const uint8_t *data)
 
 int main(int count, char **words)
 {
-    struct recording r, binary32;
+    struct recording r;
+    struct bytes binary32;
     if (count != 3) {
         fprintf(stderr, "usage: all_rows CONFIGURATION DATA\n");
         return TROUBLE;
@@ -59,11 +60,11 @@ int main(int count, char **words)
     if (status != DONE)
         return status;
     status = change(&r, ZL_BINARY32, &binary32);
-    free(r.data);
+    unload(&r);
     if (status != DONE)
         return status;
     print_layout(r.layout);
-    print_rows(binary32.layout, binary32.data);
-    free(binary32.data);
+    print_rows(r.layout, binary32.start);
+    free(binary32.start);
     return all_printed();
 }

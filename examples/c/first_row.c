@@ -2,7 +2,6 @@
 #include "recording.h"
 
 #include <stdio.h>
-#include <stdlib.h>
 
 int main(int count, char **words)
 {
@@ -15,8 +14,8 @@ int main(int count, char **words)
     int status = load(words[1], words[2], &r);
     if (status != DONE)
         return status;
-    zl_answer answer = zl_row_in(r.layout, r.data, r.data_length, 1, row, ZL_MOST_ROW_PLACES);
-    free(r.data);
+    zl_answer answer = zl_row_in(r.layout, r.data.start, r.data.length, 1, row, ZL_MOST_ROW_PLACES);
+    unload(&r);
     if (answer.number != ZL_YES)
         return say_refusal("dat", answer);
     print_layout(r.layout);

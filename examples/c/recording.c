@@ -29,16 +29,17 @@ static uint8_t *read_all(FILE *file, size_t *length)
     return bytes;
 }
 
-/* The bytes of a file, or null after a line on standard error. */
-static uint8_t *read_file(const char *name, size_t *length)
+/* Reads a whole file. */
+static int read_file(const char *name, struct bytes *read)
 {
     FILE *file = fopen(name, "rb");
-    uint8_t *bytes = file == NULL ? NULL : read_all(file, length);
+    read->start = file == NULL ? NULL : read_all(file, &read->length);
     if (file != NULL)
         fclose(file);
-    if (bytes == NULL)
-        fprintf(stderr, "%s can't be read\n", name);
-    return bytes;
+    if (read->start != NULL)
+        return DONE;
+    fprintf(stderr, "%s can't be read\n", name);
+    return TROUBLE;
 }
 
 int say_refusal(const char *file, zl_answer answer)
@@ -49,10 +50,10 @@ int say_refusal(const char *file, zl_answer answer)
 }
 
 /* Takes the layout from a configuration. */
-static int take_layout(const uint8_t *cfg, size_t cfg_length, zl_layout *layout)
+static int take_layout(struct bytes cfg, zl_layout *layout)
 {
     int64_t shown[ZL_CONFIG_PLACES];
-    zl_answer answer = zl_config(cfg, cfg_length, shown, ZL_CONFIG_PLACES);
+    zl_answer answer = zl_config(cfg.start, cfg.length, shown, ZL_CONFIG_PLACES);
     if (answer.number != ZL_YES)
         return say_refusal("cfg", answer);
     *layout = zl_layout_of(shown);
@@ -61,39 +62,47 @@ static int take_layout(const uint8_t *cfg, size_t cfg_length, zl_layout *layout)
 
 int load(const char *cfg_name, const char *dat_name, struct recording *recording)
 {
-    size_t cfg_length;
-    uint8_t *cfg = read_file(cfg_name, &cfg_length);
-    if (cfg == NULL)
-        return TROUBLE;
-    int status = take_layout(cfg, cfg_length, &recording->layout);
-    free(cfg);
+    int status = read_file(cfg_name, &recording->cfg);
     if (status != DONE)
         return status;
-    recording->data = read_file(dat_name, &recording->data_length);
-    return recording->data == NULL ? TROUBLE : DONE;
+    status = take_layout(recording->cfg, &recording->layout);
+    if (status == DONE)
+        status = read_file(dat_name, &recording->data);
+    if (status != DONE)
+        free(recording->cfg.start);
+    return status;
 }
 
-int change(const struct recording *recording, uint32_t new_kind, struct recording *changed)
+void unload(struct recording *recording)
 {
-    zl_answer needed = zl_length_in(recording->layout, recording->data, recording->data_length, new_kind);
+    free(recording->cfg.start);
+    free(recording->data.start);
+}
+
+int lend(size_t length, const char *what, struct bytes *room)
+{
+    room->start = malloc(length);
+    room->length = length;
+    if (room->start != NULL)
+        return DONE;
+    fprintf(stderr, "there is no memory for %s\n", what);
+    return TROUBLE;
+}
+
+int change(const struct recording *recording, uint32_t new_kind, struct bytes *changed)
+{
+    struct bytes data = recording->data;
+    zl_answer needed = zl_length_in(recording->layout, data.start, data.length, new_kind);
     if (needed.number != ZL_YES)
         return say_refusal("dat", needed);
-    uint8_t *out = malloc(needed.length);
-    if (out == NULL) {
-        fprintf(stderr, "there is no memory for the data file as %s\n", kind_words[new_kind]);
-        return TROUBLE;
-    }
-    zl_answer done =
-        zl_change_in(recording->layout, recording->data, recording->data_length, new_kind, out, needed.length);
-    if (done.number != ZL_YES) {
-        free(out);
-        return say_refusal("dat", done);
-    }
-    changed->layout = recording->layout;
-    changed->layout.kind = new_kind;
-    changed->data = out;
-    changed->data_length = done.length;
-    return DONE;
+    int status = lend(needed.length, "the new data file", changed);
+    if (status != DONE)
+        return status;
+    zl_answer done = zl_change_in(recording->layout, data.start, data.length, new_kind, changed->start, changed->length);
+    if (done.number == ZL_YES)
+        return DONE;
+    free(changed->start);
+    return say_refusal("dat", done);
 }
 
 void print_layout(zl_layout layout)

@@ -1,5 +1,5 @@
-/* What the examples share: a recording, loaded from its two files, changed to another kind and printed as the listing does,
- * and refusals said in words. */
+/* What the examples share: a recording, loaded from its two files, its data file changed to another kind and its rows printed
+ * as the listing does, and refusals said in words. */
 #ifndef RECORDING_H
 #define RECORDING_H
 
@@ -13,10 +13,15 @@ enum {
     TROUBLE = 2
 };
 
+/* The bytes of a file, freed by whoever has them. */
+struct bytes {
+    uint8_t *start;
+    size_t length;
+};
+
 struct recording {
     zl_layout layout;
-    uint8_t *data; /* the bytes of the data file, freed by whoever has the recording */
-    size_t data_length;
+    struct bytes cfg, data;
 };
 
 /* The kinds' words, by number. */
@@ -25,8 +30,14 @@ extern const char *const kind_words[3];
 /* Loads a recording. The data file is not checked yet. */
 int load(const char *cfg_name, const char *dat_name, struct recording *recording);
 
-/* The recording in another kind, or the same: asks how long its data file is, lends so much room and changes it. */
-int change(const struct recording *recording, uint32_t new_kind, struct recording *changed);
+/* Frees the bytes of both files. */
+void unload(struct recording *recording);
+
+/* Room for so many bytes, or TROUBLE after a line on standard error that says what it was for. */
+int lend(size_t length, const char *what, struct bytes *room);
+
+/* The data file in another kind, or the same: asks how long it is, lends so much room and changes it. */
+int change(const struct recording *recording, uint32_t new_kind, struct bytes *changed);
 
 /* Prints the first line of a listing. */
 void print_layout(zl_layout layout);

@@ -26,7 +26,7 @@ pub struct Moment {
 pub struct Config {
     pub layout: Layout,
     rates: i64,
-    last_rows: Vec<i64>,
+    pub last_rows: Vec<i64>,
     first: Moment,
     trigger: Moment,
     code: i64,

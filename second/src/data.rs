@@ -2,7 +2,7 @@
 //! In memory a row is its time, A samples and D statuses; place 1 of a row is field 2.
 
 use crate::numbers;
-use crate::{no, yes, Answer};
+use crate::{no, put, yes, Answer};
 
 /// The most analog channels.
 pub const MOST_A: i64 = 96;
@@ -50,7 +50,7 @@ impl Kind {
         }
     }
 
-    /// The kind's word, spelled as in a listing.
+    /// The kind's word, spelled as in a listing and in a configuration that is written.
     pub fn word(self) -> &'static str {
         match self {
             Kind::Ascii => "ASCII",
@@ -328,14 +328,7 @@ fn find_row(a: u32, d: u32, rows: u32, kind: u32, data: &[u8], n: u32) -> Result
 
 /// Writing one row: 10, 15, 16, 17; no end mark is added.
 pub fn write_row(a: u32, d: u32, rows: u32, kind: u32, n: u32, row: &[i64], out: &mut [u8]) -> Answer {
-    match row_bytes(a, d, rows, kind, n, row) {
-        Err(answer) => answer,
-        Ok(bytes) if out.len() < bytes.len() => no(17, 0, 0),
-        Ok(bytes) => {
-            out[..bytes.len()].copy_from_slice(&bytes);
-            yes(bytes.len() as u32)
-        }
-    }
+    put(row_bytes(a, d, rows, kind, n, row), out)
 }
 
 /// The bytes of row n: 10 for the layout or a row with too few places, then 15, then 16 at the first field that does not fit.

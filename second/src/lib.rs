@@ -1,5 +1,5 @@
 //! Recordings of the 2013 edition: a configuration and a data file of the kind ASCII, binary or binary32.
-//! The calls check them, show rows, write rows and change a data file from one kind to another.
+//! The calls check them, show rows, write rows, change a data file from one kind to another and write the configuration for it.
 #![forbid(unsafe_code)]
 
 mod change;
@@ -8,10 +8,12 @@ mod data;
 mod numbers;
 #[cfg(test)]
 mod tests;
+mod write_config;
 
 pub use change::{change, length};
 pub use config::config;
 pub use data::{check, row, write_row};
+pub use write_config::write_config;
 
 /// An answer: number 0 is "yes"; a "no" has its number and place, and length zero.
 #[derive(Debug, Clone, Copy, PartialEq, Eq)]
@@ -30,6 +32,18 @@ pub(crate) fn no(number: u32, at: u32, field: u32) -> Answer {
 /// A "yes" returns the length in bytes where the call has one.
 pub(crate) fn yes(length: u32) -> Answer {
     Answer { number: 0, at: 0, field: 0, length }
+}
+
+/// Puts what is to be written where it goes, and reports its length; too little room is 17, last of all.
+pub(crate) fn put(written: Result<Vec<u8>, Answer>, out: &mut [u8]) -> Answer {
+    match written {
+        Err(answer) => answer,
+        Ok(bytes) if out.len() < bytes.len() => no(17, 0, 0),
+        Ok(bytes) => {
+            out[..bytes.len()].copy_from_slice(&bytes);
+            yes(bytes.len() as u32)
+        }
+    }
 }
 
 /// The most bytes of a configuration, and of a data file in a listing.

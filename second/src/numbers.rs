@@ -2,8 +2,8 @@
 
 use std::cmp::Ordering;
 
-/// Numbers may have leading spaces.
-fn after_spaces(field: &[u8]) -> &[u8] {
+/// Numbers and codes may have leading spaces.
+pub fn after_spaces(field: &[u8]) -> &[u8] {
     let spaces = field.iter().take_while(|&&byte| byte == b' ').count();
     &field[spaces..]
 }

@@ -5,20 +5,43 @@ use super::{answer, no, Answer};
 use std::cmp::Ordering;
 
 /// Places in which a configuration is shown.
-const PLACES: usize = 34;
+pub const PLACES: usize = 34;
+
+/// The most bytes of a configuration.
+pub const MOST_BYTES: usize = 65_536;
 
 /// The most fields of a line.
 const MOST_FIELDS: usize = 13;
 
+/// What is noted of a configuration while it is read: where it is written otherwise than it stands.
+pub trait Notes {
+    /// Whether anything is noted at all.
+    const WANTED: bool = true;
+
+    /// Spaces before a number or a code.
+    fn spaces(&mut self, _start: usize, _count: usize) {}
+
+    /// The kind's word.
+    fn word(&mut self, _start: usize, _end: usize) {}
+}
+
+/// Nothing is noted: the configuration is only read.
+struct Ignored;
+
+impl Notes for Ignored {
+    const WANTED: bool = false;
+}
+
 /// Where the lines are taken from, and where the fields of the line at hand start.
-struct Reader<'a> {
+struct Reader<'a, N> {
     cfg: &'a [u8],
     at: usize,
     line: u32,
     starts: [usize; MOST_FIELDS + 1],
+    notes: &'a mut N,
 }
 
-impl<'a> Reader<'a> {
+impl<'a, N: Notes> Reader<'a, N> {
     /// The next line of `wanted` fields, not the last one.
     fn next(&mut self, wanted: usize) -> Result<(), Answer> {
         self.take(wanted, false)
@@ -65,6 +88,20 @@ impl<'a> Reader<'a> {
 
     fn no(&self, number: u32, field: usize) -> Answer {
         no(number, self.line, field as u32)
+    }
+
+    /// Notes the spaces before numbers and codes, in fields of the line that are fine.
+    #[inline(always)]
+    fn note_spaces<const COUNT: usize>(&mut self, fields: [usize; COUNT]) {
+        if !N::WANTED {
+            return;
+        }
+        for number in fields {
+            let field = self.field(number);
+            if field.first() == Some(&b' ') {
+                self.notes.spaces(self.starts[number - 1], field.len() - after_spaces(field).len());
+            }
+        }
     }
 
     /// A test of form, 5.
@@ -243,7 +280,7 @@ impl Real {
 /// Reads a configuration and shows it; fewer than 34 places are 17, last of all.
 pub fn config(cfg: &[u8], shown: &mut [i64]) -> Answer {
     let mut places = [0; PLACES];
-    answer(read(cfg, &mut places).and_then(|_| {
+    answer(read(cfg, &mut places, &mut Ignored).and_then(|_| {
         let Some(shown) = shown.get_mut(..PLACES) else { return Err(no(17, 0, 0)) };
         shown.copy_from_slice(&places);
         Ok(0)
@@ -251,11 +288,11 @@ pub fn config(cfg: &[u8], shown: &mut [i64]) -> Answer {
 }
 
 /// 1, then line by line, each into its places.
-fn read(cfg: &[u8], places: &mut [i64; PLACES]) -> Result<(), Answer> {
-    if cfg.len() > 65_536 {
+pub fn read<N: Notes>(cfg: &[u8], places: &mut [i64; PLACES], notes: &mut N) -> Result<(), Answer> {
+    if cfg.len() > MOST_BYTES {
         return Err(no(1, 0, 0));
     }
-    let mut lines = Reader { cfg, at: 0, line: 0, starts: [0; MOST_FIELDS + 1] };
+    let mut lines = Reader { cfg, at: 0, line: 0, starts: [0; MOST_FIELDS + 1], notes };
     station(&mut lines)?;
     let (a, d) = channels(&mut lines)?;
     for index in 1..=a {
@@ -281,7 +318,7 @@ fn read(cfg: &[u8], places: &mut [i64; PLACES]) -> Result<(), Answer> {
     Ok(())
 }
 
-fn station(lines: &mut Reader) -> Result<(), Answer> {
+fn station<N: Notes>(lines: &mut Reader<N>) -> Result<(), Answer> {
     lines.next(3)?;
     lines.text(1, 0, 64)?;
     lines.text(2, 0, 64)?;
@@ -293,7 +330,7 @@ fn station(lines: &mut Reader) -> Result<(), Answer> {
     Ok(())
 }
 
-fn channels(lines: &mut Reader) -> Result<(u64, u64), Answer> {
+fn channels<N: Notes>(lines: &mut Reader<N>) -> Result<(u64, u64), Answer> {
     lines.next(3)?;
     let total = lines.count(1, 6)?;
     lines.range(1, (1..=352).contains(&total))?;
@@ -302,10 +339,11 @@ fn channels(lines: &mut Reader) -> Result<(u64, u64), Answer> {
     if total != a + d {
         return Err(lines.no(7, 3));
     }
+    lines.note_spaces([1, 2, 3]);
     Ok((a, d))
 }
 
-fn analog(lines: &mut Reader, index: u64) -> Result<(), Answer> {
+fn analog<N: Notes>(lines: &mut Reader<N>, index: u64) -> Result<(), Answer> {
     lines.next(13)?;
     lines.index(index)?;
     lines.text(2, 1, 128)?;
@@ -325,32 +363,36 @@ fn analog(lines: &mut Reader, index: u64) -> Result<(), Answer> {
     lines.real(11, 32)?;
     lines.real(12, 32)?;
     lines.one_of(13, b"pPsS")?;
+    lines.note_spaces([1, 6, 7, 8, 9, 10, 11, 12]);
     Ok(())
 }
 
-fn status(lines: &mut Reader, index: u64) -> Result<(), Answer> {
+fn status<N: Notes>(lines: &mut Reader<N>, index: u64) -> Result<(), Answer> {
     lines.next(5)?;
     lines.index(index)?;
     lines.text(2, 1, 128)?;
     lines.text(3, 0, 2)?;
     lines.text(4, 0, 64)?;
     lines.one_of(5, b"01")?;
+    lines.note_spaces([1]);
     Ok(())
 }
 
-fn frequency(lines: &mut Reader) -> Result<(), Answer> {
+fn frequency<N: Notes>(lines: &mut Reader<N>) -> Result<(), Answer> {
     lines.next(1)?;
     if !lines.field(1).is_empty() {
         lines.real(1, 32)?;
     }
+    lines.note_spaces([1]);
     Ok(())
 }
 
 /// The number of rates, the rows, and up to eight last rows.
-fn sampling(lines: &mut Reader, places: &mut [i64]) -> Result<(), Answer> {
+fn sampling<N: Notes>(lines: &mut Reader<N>, places: &mut [i64]) -> Result<(), Answer> {
     lines.next(1)?;
     let rates = lines.count(1, 3)?;
     lines.range(1, rates <= 8)?;
+    lines.note_spaces([1]);
     let (counts, last_rows) = places.split_at_mut(2);
     let mut rows = 0;
     for place in &mut last_rows[..rates.max(1) as usize] {
@@ -362,6 +404,7 @@ fn sampling(lines: &mut Reader, places: &mut [i64]) -> Result<(), Answer> {
         if last_row <= rows {
             return Err(lines.no(7, 2));
         }
+        lines.note_spaces([1, 2]);
         rows = last_row;
         *place = rows as i64;
     }
@@ -397,7 +440,7 @@ fn day_number(year: i64, month: i64, day: i64) -> i64 {
 }
 
 /// A date line into its seven places; the moment in nanoseconds.
-fn moment(lines: &mut Reader, places: &mut [i64]) -> Result<i128, Answer> {
+fn moment<N: Notes>(lines: &mut Reader<N>, places: &mut [i64]) -> Result<i128, Answer> {
     lines.next(2)?;
     let date = lines.field(1);
     lines.form(1, has_form(date, b"dd/dd/dddd"))?;
@@ -415,22 +458,26 @@ fn moment(lines: &mut Reader, places: &mut [i64]) -> Result<i128, Answer> {
     Ok(i128::from(seconds) * 1_000_000_000 + i128::from(nanosecond))
 }
 
-fn kind(lines: &mut Reader) -> Result<i64, Answer> {
+fn kind<N: Notes>(lines: &mut Reader<N>) -> Result<i64, Answer> {
     lines.next(1)?;
     lines.text(1, 5, 8)?;
     let words: [&[u8]; 3] = [b"ascii", b"binary", b"binary32"];
     let kind = words.iter().position(|word| lines.field(1).eq_ignore_ascii_case(word));
-    kind.map(|kind| kind as i64).ok_or_else(|| lines.no(6, 1))
+    let kind = kind.ok_or_else(|| lines.no(6, 1))?;
+    lines.notes.word(lines.starts[0], lines.starts[1] - 1);
+    Ok(kind as i64)
 }
 
-fn multiplier(lines: &mut Reader) -> Result<(), Answer> {
+fn multiplier<N: Notes>(lines: &mut Reader<N>) -> Result<(), Answer> {
     lines.next(1)?;
     let real = lines.real(1, 32)?;
-    lines.range(1, real.above_zero())
+    lines.range(1, real.above_zero())?;
+    lines.note_spaces([1]);
+    Ok(())
 }
 
 /// A time code in minutes.
-fn code(lines: &Reader, field: usize) -> Result<i64, Answer> {
+fn code<N: Notes>(lines: &Reader<N>, field: usize) -> Result<i64, Answer> {
     let bytes = lines.field(field);
     let (minus, code) = after_sign(after_spaces(bytes));
     let hour_digits = code.iter().take_while(|byte| byte.is_ascii_digit()).count();
@@ -444,19 +491,20 @@ fn code(lines: &Reader, field: usize) -> Result<i64, Answer> {
 }
 
 /// Time code, whether the local code is x, local code.
-fn codes(lines: &mut Reader, places: &mut [i64]) -> Result<(), Answer> {
+fn codes<N: Notes>(lines: &mut Reader<N>, places: &mut [i64]) -> Result<(), Answer> {
     lines.next(2)?;
     places[0] = code(lines, 1)?;
     let local = lines.field(2);
     if local.len() <= 6 && after_spaces(local) == b"x" {
         places[1] = 1;
-        return Ok(());
+    } else {
+        places[2] = code(lines, 2)?;
     }
-    places[2] = code(lines, 2)?;
+    lines.note_spaces([1, 2]);
     Ok(())
 }
 
-fn quality(lines: &mut Reader, places: &mut [i64]) -> Result<(), Answer> {
+fn quality<N: Notes>(lines: &mut Reader<N>, places: &mut [i64]) -> Result<(), Answer> {
     lines.last(2)?;
     let quality = lines.one_of(1, b"0123456789ABFabf")?;
     places[0] = i64::from(if quality <= b'9' { quality - b'0' } else { (quality & 0x5F) - b'A' + 10 });

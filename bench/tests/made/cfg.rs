@@ -1,6 +1,7 @@
 //! Configurations made by chance.
 
 use super::damage;
+use bench::filled_up;
 use dice::Dice;
 
 /// What a field is replaced by: for each rule some forms that pass and some that do not.
@@ -132,9 +133,7 @@ const FIELDS: &[&str] = &[
 ];
 
 /// The lines of a configuration that passes, with some last rows.
-fn lines(dice: &mut Dice) -> Vec<String> {
-    let (a, d) = (dice.below(3), dice.below(3));
-    let (a, d) = if a + d == 0 { (1, 1) } else { (a, d) };
+fn lines(dice: &mut Dice, a: u64, d: u64) -> Vec<String> {
     let mut lines = vec!["Bench 2,R7,2013".to_string(), format!("{},{a}A,{d}D", a + d)];
     for index in 1..=a {
         lines.push(format!("{index},Ia,A,,A,0.5,0,0,-2048,2047,400,1,S"));
@@ -174,9 +173,39 @@ fn change_field(dice: &mut Dice, lines: &mut [String]) {
     lines[line] = fields.join(",");
 }
 
-/// A configuration: some fields changed in most of them, some bytes in a part.
+/// Spaces before some of the fields that may have them.
+fn space_out(dice: &mut Dice, lines: &mut [String]) {
+    let last = lines.len() - 1;
+    for line in &mut lines[1..last] {
+        let fields: Vec<&str> = line.split(',').collect();
+        let mut spaced = |(place, field): (usize, &&str)| {
+            let one_character = fields.len() >= 5 && place + 1 == fields.len();
+            let none = one_character || field.is_empty() || field.contains(['/', ':']) || *field == "ASCII";
+            " ".repeat(if none { 0 } else { dice.below(3) as usize }) + field
+        };
+        let spaced: Vec<String> = fields.iter().enumerate().map(&mut spaced).collect();
+        *line = spaced.join(",");
+    }
+}
+
+/// A configuration of so many bytes that passes, its kind spelled so.
+pub fn configuration_of_size(dice: &mut Dice, size: usize, word: &str) -> Vec<u8> {
+    let mut lines = lines(dice, 96, 256);
+    if dice.once_in(3) {
+        space_out(dice, &mut lines);
+    }
+    let text = lines.join("\r\n").replace("ASCII", word) + "\r\n";
+    filled_up(text.as_bytes(), size)
+}
+
+/// A configuration: spaces before numbers in a part, some fields changed in most of them, some bytes in a part.
 pub fn configuration(dice: &mut Dice) -> Vec<u8> {
-    let mut lines = lines(dice);
+    let (a, d) = (dice.below(3), dice.below(3));
+    let (a, d) = if a + d == 0 { (1, 1) } else { (a, d) };
+    let mut lines = lines(dice, a, d);
+    if dice.once_in(3) {
+        space_out(dice, &mut lines);
+    }
     for _ in 0..dice.below(4) {
         change_field(dice, &mut lines);
     }

@@ -2,7 +2,7 @@
 
 mod cfg;
 
-pub use cfg::configuration;
+pub use cfg::{configuration, configuration_of_size};
 
 use dice::Dice;
 

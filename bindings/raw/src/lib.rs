@@ -15,6 +15,7 @@ pub struct Answer {
 #[rustfmt::skip]
 extern "C" {
     pub fn zl_config(cfg: *const u8, cfg_length: usize, shown: *mut i64, shown_length: usize) -> Answer;
+    pub fn zl_write_config(cfg: *const u8, cfg_length: usize, kind: u32, out: *mut u8, out_length: usize) -> Answer;
     pub fn zl_check(a: u32, d: u32, rows: u32, kind: u32, data: *const u8, data_length: usize) -> Answer;
     pub fn zl_row(a: u32, d: u32, rows: u32, kind: u32, data: *const u8, data_length: usize, n: u32, shown: *mut i64, shown_length: usize) -> Answer;
     pub fn zl_write_row(a: u32, d: u32, rows: u32, kind: u32, n: u32, row: *const i64, row_length: usize, out: *mut u8, out_length: usize) -> Answer;

@@ -3,7 +3,9 @@
 //! call returns. That is all that the library asks of its caller, so every function here may be called with anything.
 
 use crate::{Layout, Refusal};
-use zagalume_raw::{zl_change, zl_check, zl_config, zl_length, zl_reason, zl_row, zl_write_row, Answer};
+use zagalume_raw::{
+    zl_change, zl_check, zl_config, zl_length, zl_reason, zl_row, zl_write_config, zl_write_row, Answer,
+};
 
 /// Yes with the length, or no.
 fn told(answer: Answer) -> Result<usize, Refusal> {
@@ -16,6 +18,11 @@ fn told(answer: Answer) -> Result<usize, Refusal> {
 pub fn config(cfg: &[u8], shown: &mut [i64]) -> Result<usize, Refusal> {
     // SAFETY: the slices are what the library asks for (see the top of this file), as in each call below.
     told(unsafe { zl_config(cfg.as_ptr(), cfg.len(), shown.as_mut_ptr(), shown.len()) })
+}
+
+pub fn write_config(cfg: &[u8], kind: u32, out: &mut [u8]) -> Result<usize, Refusal> {
+    // SAFETY: as in config.
+    told(unsafe { zl_write_config(cfg.as_ptr(), cfg.len(), kind, out.as_mut_ptr(), out.len()) })
 }
 
 pub fn check(l: Layout, data: &[u8]) -> Result<usize, Refusal> {

@@ -1,4 +1,4 @@
-//! What an accepted configuration shows.
+//! Configurations: what an accepted one shows, and one written for another kind.
 
 use crate::{calls, limits, Kind, Layout, Refusal};
 
@@ -122,4 +122,31 @@ pub fn read_config(cfg: &[u8]) -> Result<Config, Refusal> {
     let mut shown = [0; limits::CONFIG_PLACES];
     calls::config(cfg, &mut shown)?;
     Ok(Config::shown(&shown))
+}
+
+/// The configuration for a data file of that kind: the kind's word as [`Kind::word`] has it, numbers and codes without the spaces before them, every other field as it
+/// stands, and CR LF on each line. It is accepted and shows the same in all but the kind, and written again to that kind it stays as it is.
+///
+/// Refused as [`read_config`]; then with 1, where it would have more than 65,536 bytes.
+///
+/// ```
+/// let cfg = include_bytes!("../../../examples/one.cfg");
+/// let binary = zagalume::write_config(cfg, zagalume::Kind::Binary)?;
+/// assert_eq!(binary, include_bytes!("../../../examples/one-binary.cfg"));
+/// assert_eq!(zagalume::read_config(&binary)?.kind, zagalume::Kind::Binary);
+/// # Ok::<(), zagalume::Refusal>(())
+/// ```
+pub fn write_config(cfg: &[u8], kind: Kind) -> Result<Vec<u8>, Refusal> {
+    let mut out = vec![0; limits::MOST_CONFIG_BYTES];
+    let length = write_config_into(cfg, kind, &mut out)?;
+    out.truncate(length);
+    out.shrink_to_fit();
+    Ok(out)
+}
+
+/// As [`write_config`], into lent bytes, with nothing allocated: how many bytes were written. Room of [`MOST_CONFIG_BYTES`](limits::MOST_CONFIG_BYTES) is always enough.
+///
+/// Refused as [`write_config`]; last of all with 17, where the room is too short.
+pub fn write_config_into(cfg: &[u8], kind: Kind, out: &mut [u8]) -> Result<usize, Refusal> {
+    calls::write_config(cfg, kind.number(), out)
 }

@@ -1,8 +1,9 @@
 //! Zagalume, a proved loader of COMTRADE recordings (IEC 60255-24:2013; data files of the kinds ASCII, binary and binary32), as safe Rust over its static library.
 //!
 //! A recording is a configuration and a data file. [`read_config`] gives the [`Layout`] that the other calls ask for; [`check`] tells whether a data file is fine,
-//! [`row`] shows a row, [`write_row`] writes one, [`bytes_needed`] and [`change`] turn a data file into another kind. A file that breaks a rule gives a [`Refusal`], with the
-//! rule's number and its place; [`reason`] says a number in words. On a refusal nothing that was lent has changed.
+//! [`row`] shows a row, [`write_row`] writes one, [`bytes_needed`] and [`change`] turn a data file into another kind, and [`write_config`] gives the configuration that goes
+//! with it. A file that breaks a rule gives a [`Refusal`], with the rule's number and its place; [`reason`] says a number in words. On a refusal nothing that was lent has
+//! changed.
 //!
 //! ```no_run
 //! let config = zagalume::read_config(&std::fs::read("fault.cfg")?)?;
@@ -43,7 +44,7 @@ mod config;
 mod data;
 mod refusal;
 
-pub use config::{read_config, Config, Moment, PreTrigger};
+pub use config::{read_config, write_config, write_config_into, Config, Moment, PreTrigger};
 pub use data::{bytes_needed, change, change_into, check, row, row_into, write_row, write_row_into, Kind, Layout, Row};
 pub use refusal::{reason, reason_into, refused, Refusal};
 

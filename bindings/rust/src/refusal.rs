@@ -66,7 +66,7 @@ pub fn reason_into(number: u32, out: &mut [u8]) -> Result<usize, Refusal> {
 
 /// The numbers of refusals. docs/REFUSALS.md of the repository has the usual cause of each and how to mend the file.
 pub mod refused {
-    /// The configuration has more than 65,536 bytes.
+    /// The configuration has, or would have, more than 65,536 bytes.
     pub const CONFIG_SIZE: u32 = 1;
     /// The configuration ends before or inside a line; at that line.
     pub const EARLY_END: u32 = 2;

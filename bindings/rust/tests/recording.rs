@@ -1,6 +1,6 @@
 //! One recording in its three kinds, from the repository's examples: read, checked, shown, written and changed.
 
-use zagalume::{Kind, Layout, Moment, PreTrigger, Row};
+use zagalume::{Config, Kind, Layout, Moment, PreTrigger, Row};
 
 const ONE: [(&[u8], &[u8], Kind); 3] = [
     (include_bytes!("../../../examples/one.cfg"), include_bytes!("../../../examples/one.dat"), Kind::Ascii),
@@ -87,8 +87,32 @@ fn each_kind_is_changed_to_each() {
 }
 
 #[test]
+fn each_configuration_is_written_for_each_kind() {
+    for (cfg, _, _) in ONE {
+        for (new_cfg, _, new_kind) in ONE {
+            assert_eq!(zagalume::write_config(cfg, new_kind).unwrap(), new_cfg);
+            assert_eq!(zagalume::write_config(new_cfg, new_kind).unwrap(), new_cfg);
+        }
+    }
+}
+
+#[test]
+fn a_written_configuration_shows_the_same_but_for_the_kind() {
+    let text = |counts, frequency, word, codes| {
+        let text = String::from_utf8(ONE[0].0.to_vec()).unwrap().replace("2,1A,1D", counts);
+        text.replace("\n50\r", frequency).replace("ASCII", word).replace("\n0,0\r", codes)
+    };
+    let spaced = text(" 02, 1A, 1D", "\n  50\r", "ascii", "\n -1,  x\r");
+    let written = zagalume::write_config(spaced.trim_end().as_bytes(), Kind::Binary32).unwrap();
+    let bare = text("02,1A,1D", "\n50\r", "binary32", "\n-1,x\r");
+    assert_eq!(String::from_utf8(written.clone()).unwrap(), bare);
+    let config = zagalume::read_config(spaced.as_bytes()).unwrap();
+    assert_eq!(zagalume::read_config(&written), Ok(Config { kind: Kind::Binary32, ..config }));
+}
+
+#[test]
 fn what_is_lent_past_the_answer_stays_as_it_was() {
-    let (_, dat, kind) = ONE[0];
+    let (cfg, dat, kind) = ONE[0];
     let mut places = [7; 5];
     assert_eq!(zagalume::row_into(layout(kind), dat, 2, &mut places), Ok(3));
     assert_eq!(places, [1000, 300, 1, 7, 7]);
@@ -98,6 +122,9 @@ fn what_is_lent_past_the_answer_stays_as_it_was() {
     let mut bytes = [7; 26];
     assert_eq!(zagalume::change_into(layout(kind), dat, Kind::Binary, &mut bytes), Ok(24));
     assert_eq!((&bytes[..24], &bytes[24..]), (ONE[1].1, &[7, 7][..]));
+    let mut bytes = [7; 170];
+    assert_eq!(zagalume::write_config_into(cfg, Kind::Binary, &mut bytes), Ok(168));
+    assert_eq!((&bytes[..168], &bytes[168..]), (ONE[1].0, &[7, 7][..]));
 }
 
 #[test]

@@ -35,7 +35,10 @@ fn every_example_is_refused_as_it_says() {
         let out = entry.unwrap().path();
         if out.extension().is_some_and(|word| word == "out") {
             let read = |word| fs::read(out.with_extension(word)).unwrap();
-            let (file, Refusal { number, at, field }) = listed(&read("cfg"), &read("dat"));
+            let (file, refusal) = listed(&read("cfg"), &read("dat"));
+            let written = zagalume::write_config(&read("cfg"), Kind::Ascii);
+            assert_eq!(written.err(), Some(refusal).filter(|_| file == "cfg"), "{}", out.display());
+            let Refusal { number, at, field } = refusal;
             let line = format!("no {file} {number} {at} {field}\n");
             assert_eq!(line.as_bytes(), read("out"), "{}", out.display());
             numbers.insert(number);
@@ -47,6 +50,30 @@ fn every_example_is_refused_as_it_says() {
 #[test]
 fn a_configuration_over_its_size() {
     assert_eq!(zagalume::read_config(&[b' '; 65_537]), Err(no(refused::CONFIG_SIZE, 0, 0)));
+}
+
+/// An accepted configuration of so many bytes: the names of its status channels fill it up.
+fn configuration(size: usize) -> Vec<u8> {
+    let [name, circuit, unit] = [("n", 128), ("c", 64), ("u", 32)].map(|(letter, count)| letter.repeat(count));
+    let analog = |k| format!("{k},{name},A,{circuit},{unit},1,0,0,-1,1,1,1,S\r\n");
+    let filled_up = |left: usize| {
+        let status = |k| format!("{k},n{},,{circuit},0\r\n", "n".repeat(left * k / 256 - left * (k - 1) / 256));
+        let channels: String = (1..=96).map(analog).chain((1..=256).map(status)).collect();
+        let one = String::from_utf8(example("one.cfg")).unwrap();
+        let (before, after) = (one.find("2,1A,1D").unwrap(), one.find("50\r\n").unwrap());
+        format!("{}352,96A,256D\r\n{channels}{}", &one[..before], &one[after..]).into_bytes()
+    };
+    filled_up(size - filled_up(0).len())
+}
+
+#[test]
+fn a_configuration_that_would_be_over_its_size() {
+    let longest = configuration(65_536);
+    assert_eq!(longest.len(), 65_536);
+    assert_eq!(zagalume::write_config(&longest, Kind::Ascii).as_ref(), Ok(&longest));
+    assert_eq!(zagalume::write_config(&longest, Kind::Binary), Err(no(refused::CONFIG_SIZE, 0, 0)));
+    assert_eq!(zagalume::write_config_into(&longest, Kind::Binary32, &mut []), Err(no(refused::CONFIG_SIZE, 0, 0)));
+    assert_eq!(zagalume::write_config(&configuration(65_537), Kind::Ascii), Err(no(refused::CONFIG_SIZE, 0, 0)));
 }
 
 #[test]
@@ -103,11 +130,12 @@ fn what_does_not_fit_comes_before_the_room() {
 fn room_that_is_one_short() {
     let dat = example("one.dat");
     let refusal = Err(no(refused::NO_ROOM, 0, 0));
-    let (mut places, mut bytes) = ([7; 2], [7; 23]);
+    let (mut places, mut bytes, mut cfg) = ([7; 2], [7; 23], [7; 167]);
     assert_eq!(zagalume::row_into(one(Kind::Ascii), &dat, 1, &mut places), refusal);
     assert_eq!(zagalume::write_row_into(one(Kind::Ascii), 1, &[0, -3, 0], &mut bytes[..9]), refusal);
     assert_eq!(zagalume::change_into(one(Kind::Ascii), &dat, Kind::Binary, &mut bytes), refusal);
-    assert_eq!((places, bytes), ([7; 2], [7; 23]));
+    assert_eq!(zagalume::write_config_into(&example("one.cfg"), Kind::Binary, &mut cfg), refusal);
+    assert_eq!((places, bytes, cfg), ([7; 2], [7; 23], [7; 167]));
 }
 
 #[test]

@@ -1,4 +1,4 @@
-use super::{join, no, with, yes, S};
+use super::{join, no, of_size, with, yes, S};
 use crate::config;
 
 /// The answer for a configuration; a "no" changes no lent place, a "yes" only the first 34.
@@ -68,27 +68,7 @@ fn the_size_is_first() {
 /// Configuration, bytes: most 65,536.
 #[test]
 fn a_configuration_of_65536_bytes_may_pass() {
-    let mut lines: Vec<String> = vec![S[0].into(), "352,96A,256D".into()];
-    let mut left = 65_536;
-    for i in 1..=96 {
-        lines.push(format!("{i:06},{},AB,{},{},1,0,0,-1,1,1,1,p", "n".repeat(128), "c".repeat(64), "u".repeat(32)));
-    }
-    for i in 1..=256 {
-        lines.push(format!("{i},s,,{},1", "c".repeat(60)));
-    }
-    lines.extend(S[4..].iter().map(|line| line.to_string()));
-    for line in &lines {
-        left -= line.len() + 2;
-    }
-    for line in lines[98..354].iter_mut() {
-        let more = left.min(120);
-        let name = format!(",s{},", "t".repeat(more));
-        *line = line.replace(",s,", &name);
-        left -= more;
-    }
-    assert_eq!(left, 0);
-    let texts: Vec<&str> = lines.iter().map(|line| line.as_str()).collect();
-    let bytes = join(&texts);
+    let bytes = of_size(65_536, "ASCII");
     assert_eq!(bytes.len(), 65_536);
     assert_eq!(ask(&bytes), yes(0));
     assert_eq!(shown(&bytes)[..4], [96, 256, 1, 2]);

@@ -5,6 +5,7 @@ mod config;
 mod data;
 mod list;
 mod numbers;
+mod write_config;
 
 use crate::Answer;
 
@@ -67,4 +68,24 @@ pub fn with(changes: &[(usize, &str)]) -> Vec<u8> {
         lines[line - 1] = text;
     }
     join(&lines)
+}
+
+/// An accepted configuration of so many bytes, its kind spelled so: names of status channels fill it up.
+pub fn of_size(size: usize, word: &str) -> Vec<u8> {
+    let mut lines: Vec<String> = vec![S[0].into(), "352,96A,256D".into()];
+    for i in 1..=96 {
+        lines.push(format!("{i:06},{},AB,{},{},1,0,0,-1,1,1,1,p", "n".repeat(128), "c".repeat(64), "u".repeat(32)));
+    }
+    for i in 1..=256 {
+        lines.push(format!("{i},s,,{},1", "c".repeat(60)));
+    }
+    lines.extend(S[4..9].iter().chain(&[word]).chain(&S[10..]).map(|line| line.to_string()));
+    let mut left = size - lines.iter().map(|line| line.len() + 2).sum::<usize>();
+    for line in lines[98..354].iter_mut() {
+        let more = left.min(120);
+        *line = line.replace(",s,", &format!(",s{},", "t".repeat(more)));
+        left -= more;
+    }
+    assert_eq!(left, 0);
+    join(&lines.iter().map(String::as_str).collect::<Vec<&str>>())
 }

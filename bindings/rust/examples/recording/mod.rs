@@ -10,6 +10,7 @@ use zagalume::{Layout, Refusal, Row};
 /// A recording whose data file is not checked yet.
 pub struct Recording {
     pub layout: Layout,
+    pub cfg: Vec<u8>,
     pub data: Vec<u8>,
 }
 
@@ -71,8 +72,9 @@ fn read(name: &OsStr) -> Result<Vec<u8>, Failure> {
 
 /// Loads a recording.
 pub fn load(cfg: &OsStr, dat: &OsStr) -> Result<Recording, Failure> {
-    let config = zagalume::read_config(&read(cfg)?).map_err(Failure::Configuration)?;
-    Ok(Recording { layout: config.layout(), data: read(dat)? })
+    let cfg = read(cfg)?;
+    let layout = zagalume::read_config(&cfg).map_err(Failure::Configuration)?.layout();
+    Ok(Recording { layout, cfg, data: read(dat)? })
 }
 
 /// Prints the first line of a listing.

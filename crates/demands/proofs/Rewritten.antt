@@ -4,9 +4,7 @@
 --     written-again          written again in the same kind it stays as it is, byte for byte
 --     there-and-back         written in one kind and then in another, it is what is written in the other at once
 --     never-long             it is longer than the configuration by at most 5 bytes, so that 1 is told of no configuration of less than 65,532 bytes
---     written-lines          it is the lines of the configuration, each as it is written, with its CR LF
---     fields-written         the fields of a line that is written: those of the line, numbers and codes without their leading spaces
---     bare-exactly           a field without its leading spaces: spaces and it are the field, and it begins with none
+--     written-lines          its lines are those of the configuration, each as it is written (exact_rewrite/specs/Lines.antt), with its CR LF
 --     recording-changed      configuration and data file of a recording, both written in a kind, are a recording of the same rows in that kind
 -- Assumes nothing.
 use mathlib.Core.Path.{_≡_, refl, sym, _∙_}
@@ -35,7 +33,7 @@ use Rattle.paper.specs.Written.{AllInRange}
 use Rattle.exact_config.proofs.ExactLaws.{sized-config}
 use Rattle.exact_data.proofs.FileLaws.{data-exactly}
 use Rattle.exact_data.proofs.ChangeLaws.{new-file, new-said, new-bytes}
-pub use Rattle.exact_rewrite.proofs.ExactLaws.{rewritten-exactly, written-accepted, written-again, there-and-back, never-long, written-lines, fields-written, bare-exactly}
+pub use Rattle.exact_rewrite.proofs.ExactLaws.{rewritten-exactly, written-accepted, written-again, there-and-back, never-long, written-lines}
 
 -- A recording: a configuration s that shows c, and a data file d of its layout, whose rows are r. In kind k its samples are in range, and its configuration is not too long.
 -- Then both calls say what they write wherever there is room, the new configuration is accepted and shows the same in kind k, and the new data file is accepted for its layout and shows the same rows

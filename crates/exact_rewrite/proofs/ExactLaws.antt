@@ -4,9 +4,7 @@
 --     there-and-back       written in one kind and then in another, it is what is written in the other at once
 --     written-again        written again in the same kind it stays as it is
 --     never-long           it is longer than the configuration by at most 5 bytes, so that 1 is told of no configuration of less than 65,532 bytes
---     written-lines        it is the lines of the configuration, each as it is written, with its CR LF
---     fields-written       the fields of a line that is written: those of the line, numbers and codes without their leading spaces
---     bare-exactly         a field without its leading spaces: spaces and it are the field, and it begins with none
+--     written-lines        its lines are those of the configuration, each as it is written, with its CR LF
 -- Assumes nothing.
 use mathlib.Core.Path.{_≡_, refl, sym, ap, _∙_}
 use mathlib.Core.Logic.{_↔_, _⊎_}
@@ -22,7 +20,6 @@ use Rattle.ground.specs.Quoted.{quoted}
 use Rattle.ground.specs.Tables.{cat}
 use Rattle.ground.proofs.Cases.{on-test, clash}
 use Rattle.ground.proofs.SaidLaws.{must-told, bind-told}
-use Rattle.numerals.specs.Counts.{leadingSpaces}
 use Rattle.model.specs.declared.Kind.{Kind}
 use Rattle.model.specs.declared.Refusal.{Refusal}
 use Rattle.model.specs.declared.Answer.the-variants.{Yes}
@@ -32,18 +29,16 @@ use Rattle.config_rules.specs.Shown.{withKind}
 use Rattle.config.specs.Config.{readConfig}
 use Rattle.config.specs.Said.{configSaid}
 use Rattle.config.proofs.SaidLaws.{config-said}
-use Rattle.paper.specs.Fields.{spaces}
 use Rattle.paper.specs.Lines.{ended}
 use Rattle.paper.specs.Configuration.{Configuration}
-use Rattle.exact.proofs.CountLaws.{spaces-split}
 use Rattle.exact_config.proofs.ExactLaws.{config-exactly, one-config}
 use Rattle.rewrite_lines.specs.declared.LineSort.the-variants.{Kept}
-use Rattle.rewrite_lines.specs.Lines.{bare, lineText}
-use Rattle.rewrite_lines.proofs.FieldLaws.{bare-none}
+use Rattle.rewrite_lines.specs.Lines.{lineText}
 use Rattle.rewrite_lines.proofs.LineLaws.{line-bytes, line-again}
 use Rattle.rewrite.specs.Rewrite.{sorts, rewritten, resultSaid, rewriteSaid}
 use Rattle.rewrite.proofs.CutLaws.{lines-again}
-pub use Rattle.exact_rewrite.proofs.LineLaws.{fields-written}
+use Rattle.exact_rewrite.specs.Lines.{LineWritten}
+use Rattle.exact_rewrite.proofs.LineLaws.{line-written}
 use Rattle.exact_rewrite.proofs.WholeLaws.{rewritten-configuration, rewritten-long, rewritten-lines}
 
 -- a result that is said is no longer than a configuration may be, and than the room
@@ -110,12 +105,16 @@ module _ (s : List ℕ) (c : Config) (t : Configuration s c) (k : Kind) where
       let long = rewritten-long s c t k in
       (long, λ room e. omega (arith, long, result-one (rewritten c k s) room (rw (config-exactly s c .1 t) at e)))
 
+  -- s is the lines x 0, x 1, .., the last with its CR LF or without, and w the lines y 0, y 1, .., each with it; each line is written by its sort
   pub written-lines : (room : ℕ) (w : List ℕ) → rewriteSaid s k room ≡ says w
       → let m = length (sorts c) in
-      (x : ℕ → List ℕ)
+      (x : ℕ → List ℕ) × (y : ℕ → List ℕ)
       × ((s ++ quoted "\r\n" ≡ cat (λ i. ended (x i)) m) ⊎ (s ≡ cat (λ i. ended (x i)) m))
-      × (w ≡ cat (λ i. ended (lineText k (getD (sorts c) i Kept) (x i))) m)
-  written-lines room w e = rw (written-is room w e .0) (rewritten-lines s c t k)
+      × (w ≡ cat (λ i. ended (y i)) m)
+      × ((i : ℕ) → LineWritten k (getD (sorts c) i Kept) (x i) (y i))
+  written-lines room w e =
+      let (x, old, new) = rewritten-lines s c t k in
+      (x, λ i. lineText k (getD (sorts c) i Kept) (x i), old, written-is room w e .0 ∙ new, λ i. line-written k (getD (sorts c) i Kept) (x i))
 
 -- lines that were written in one kind, written in another
 rewritten-over : (c : Config) (j k : Kind) (s : List ℕ) → rewritten c k (rewritten c j s) ≡ rewritten c k s
@@ -137,6 +136,3 @@ there-and-back s j k room room' u w e f more g =
 
 pub written-again : (s : List ℕ) (k : Kind) (room : ℕ) (w : List ℕ) → rewriteSaid s k room ≡ says w → (more : ℕ) → length w ≤ more → rewriteSaid w k more ≡ says w
 written-again s k room w e = there-and-back s k k room room w w e e
-
-pub bare-exactly : (f : List ℕ) → ((n : ℕ) × (f ≡ spaces n ++ bare f)) × (leadingSpaces (bare f) ≡ 0)
-bare-exactly f = ((leadingSpaces f, spaces-split f), bare-none f)

@@ -1,12 +1,13 @@
 -- A line as it is written is what it was: the record of a line holds of it.
 --     fields-written             its fields are those of the line, each as it is written
+--     line-written               so it is what the line is written as, told by its fields
 --     kept-short, numbers-short, analog-short, status-short     a line but the kind's is no longer than it was
 --     kind-long, word-short      the kind's line has at least 5 characters, and its word at most 8
 --     station-written to quality-written     each line of a configuration, and the kind's line in another kind
 -- Assumes nothing.
 use mathlib.Core.Path.{_≡_, refl, sym, ap, _∙_}
 use mathlib.Core.Logic.{_⊎_, inl, inr}
-use mathlib.Core.Bool.{Bool, true}
+use mathlib.Core.Bool.{Bool, true, false}
 use mathlib.Core.List.{List, [], _∷_, _++_, append-nil}
 use Prim.Native.Nat.{ℕ, suc, _+_, _-_, _≤_}
 use native.Mathlib.Omega.{arith}
@@ -15,6 +16,7 @@ use lib.IntN.{ℤ}
 use lib.ListN.{length}
 use Rattle.ground.specs.Tables.{every}
 use Rattle.text.specs.Fields.{commas, fieldCount, fieldAt}
+use Rattle.numerals.specs.Counts.{leadingSpaces}
 use Rattle.reals.specs.declared.Real.{Real}
 use Rattle.reals.specs.declared.Real.the-variants as real
 use Rattle.model.specs.declared.Kind.{Kind}
@@ -22,12 +24,14 @@ use Rattle.model.specs.declared.Kind.the-variants.{Ascii, Binary, Binary32}
 use Rattle.model.specs.Kinds.{kindName}
 use Rattle.paper.specs.Fields.{isBetween, lowered, kindWord, AnyReal}
 use Rattle.paper.specs.Lines.{Line, Fields, ChannelsLine, ChannelNames, AnalogLine, StatusLine, FrequencyLine, RatesLine, RateLine, KindLine, MultiplierLine, CodesLine}
-use Rattle.exact.proofs.CommaLaws.{fields-exactly}
+use Rattle.exact.proofs.CountLaws.{spaces-split}
+use Rattle.exact.proofs.CommaLaws.{fields-exactly, fields-of}
 use Rattle.rewrite_lines.specs.declared.LineSort.{LineSort}
 use Rattle.rewrite_lines.specs.declared.LineSort.the-variants.{Kept, Numbers, Analog, Status, Word}
 use Rattle.rewrite_lines.specs.Lines.{isNumber, bare, fieldText, fieldsText, lineText}
 use Rattle.pieces.proofs.Laws.{kind-short}
-use Rattle.rewrite_lines.proofs.FieldLaws.{count-text, field-text, bytes-text}
+use Rattle.exact_rewrite.specs.Lines.{FieldWritten, FieldsWritten, LineWritten}
+use Rattle.rewrite_lines.proofs.FieldLaws.{bare-none, count-text, field-text, bytes-text}
 use Rattle.rewrite_lines.proofs.WalkLaws.{fields-short}
 use Rattle.exact_rewrite.proofs.FieldLaws.{count-bare, in-bare, lettered-bare, real-bare, any-bare, limits-bare, code-bare, local-bare}
 
@@ -42,6 +46,35 @@ fields-written sort n f l h w =
           let t : fieldAt i (fieldsText sort l) ≡ fieldText (isNumber sort i) (fieldAt i l) = rw e at (field-text sort l (i - 1) (omega arith)) in
           t ∙ ap (fieldText (isNumber sort i)) (each i p q),
     )
+
+-- a field without its leading spaces
+no-space : (g r : List ℕ) → leadingSpaces g ≡ 0 → g ≡ 32 ∷ r → ⊥
+no-space g r h e = let q : leadingSpaces (32 ∷ r) ≡ 0 = rw e at h in omega arith
+
+field-written : (t : Bool) (f : List ℕ) → FieldWritten t f (fieldText t f)
+field-written true f = ((leadingSpaces f, spaces-split f), λ r. no-space (bare f) r (bare-none f))
+field-written false f = refl
+
+fields-there : (sort : LineSort) (l : List ℕ) → FieldsWritten sort l (fieldsText sort l)
+unfolding fieldCount
+fields-there sort l =
+    let old = fields-of (fieldCount l) l (omega arith) refl in
+    record {
+      count = fieldCount l;
+      old = λ i. fieldAt i l;
+      new = λ i. fieldText (isNumber sort i) (fieldAt i l);
+      before = old;
+      after = fields-written sort (fieldCount l) (λ i. fieldAt i l) l (omega arith) old;
+      each = λ i p q. field-written (isNumber sort i) (fieldAt i l);
+    }
+
+pub line-written : (k : Kind) (sort : LineSort) (l : List ℕ) → LineWritten k sort l (lineText k sort l)
+unfolding lineText
+line-written k Kept l = refl
+line-written k Numbers l = fields-there Numbers l
+line-written k Analog l = fields-there Analog l
+line-written k Status l = fields-there Status l
+line-written k Word l = refl
 
 -- a line by its sort
 module _ {P : List ℕ → Type 0} where

@@ -1,0 +1,1 @@
+// The exported call that writes a configuration.

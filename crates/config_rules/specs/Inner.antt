@@ -20,9 +20,6 @@ use Rattle.clock.specs.declared.Span.{Span}
 use Rattle.clock.specs.Dates.{validDate}
 use Rattle.clock.specs.Times.{validTime}
 use Rattle.clock.specs.Spans.{preTrigger}
-use Rattle.model.specs.declared.Kind.{Kind}
-use Rattle.model.specs.declared.Layout.{Layout}
-use Rattle.model.specs.Layouts.{inKind}
 use Rattle.config_rules.specs.declared.Moment.{Moment}
 use Rattle.config_rules.specs.declared.Config.{Config}
 use Rattle.config_rules.specs.declared.Rule.{Rule}

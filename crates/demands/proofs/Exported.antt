@@ -20,13 +20,10 @@ use Rattle.model.specs.declared.Kind.{Kind}
 use Rattle.model.specs.declared.KindNo.{KindNo}
 use Rattle.model.specs.declared.KindNo.the-variants as number
 use Rattle.model.specs.declared.Row.{Row}
-use Rattle.model.specs.declared.Answer.{Answer}
-use Rattle.model.specs.declared.Answer.the-variants.{Yes, No}
 use Rattle.model.specs.Kinds.{kindOf}
 use Rattle.model.specs.Layouts.{Sized}
 use Rattle.model.specs.Refusals.{refused, answerSaid}
 use Rattle.config_rules.specs.declared.Config.{Config}
-use Rattle.config.specs.declared.ConfigAnswer.{ConfigAnswer}
 use Rattle.config.specs.Config.{readConfig}
 use Rattle.data.specs.declared.RowAnswer.{RowAnswer}
 use Rattle.data.specs.Files.{rowAt, checkFile, rowAnswer, showRow}

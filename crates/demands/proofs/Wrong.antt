@@ -18,6 +18,7 @@
 --     refuses-every-writing           no configuration is written
 --     copies-the-configuration        a configuration is written as it stands, its old kind's word too
 --     shows-the-old-kind              what is written shows the kind that the configuration had
+--     asks-for-more-room              room that is just enough for a configuration is refused
 -- Assumes nothing.
 use mathlib.Core.Path.{_≡_, refl, sym, ap, _∙_}
 use mathlib.Core.Bool.{true, false}
@@ -50,6 +51,8 @@ use Rattle.model.specs.Kinds.{fitsKind}
 use Rattle.model.specs.Layouts.{isSized, inKind}
 use Rattle.model.specs.Refusals.{refused}
 use Rattle.model.specs.Rows.{zeroRow, misfit}
+use Rattle.config_rules.specs.Shown.{withKind}
+use Rattle.config.specs.declared.ConfigAnswer.{ConfigAnswer}
 use Rattle.config.specs.Config.{readConfig}
 use Rattle.binary_row.specs.Rows as binary
 use Rattle.binary_bytes.specs.Rows.{binaryOf, packed}
@@ -68,8 +71,11 @@ use Rattle.change.specs.Change.{changeSaid}
 use Rattle.change_length.specs.Needed.{fitRow, fitRows, bytesNeeded, changed}
 use Rattle.change.proofs.ChangeLaws.{change-needs}
 use Rattle.change_length.proofs.LengthLaws.{needed-length}
+use Rattle.rewrite.specs.Rewrite.{rewritten, rewriteSaid}
+use Rattle.exact_config.proofs.ExactLaws.{config-exactly}
+use Rattle.exact_rewrite.proofs.ExactLaws.{rewritten-exactly, written-accepted, never-long}
 use Rattle.demands.proofs.Calls.{never-17}
-use Rattle.demands.proofs.Recording.{recordingWith, recording, recording-accepted, recording-code}
+use Rattle.demands.proofs.Recording.{recordingWith, recording, recordingShows, recording-accepted, recording-configuration, recording-code}
 use Rattle.demands.proofs.Vectors.{layout, row, of-t1, t1, t2, t3, vectors}
 
 -- T1's rows
@@ -339,3 +345,9 @@ shows-the-old-kind h =
 
 pub copies-the-configuration : ((s w : List ℕ) (k : Kind) (room : ℕ) → rewriteSaid s k room ≡ says w → w ≡ s) → ⊥
 copies-the-configuration h = shows-the-old-kind (λ s w k room e. ap (λ (x : List ℕ). readConfig x .config .layout .kind) (h s w k room e))
+
+pub asks-for-more-room : ((s w : List ℕ) (k : Kind) (room : ℕ) → rewriteSaid s k room ≡ says w → length w < room) → ⊥
+asks-for-more-room h =
+    let w = binary-written .0 in
+    let (c, t, q, small, fits) = rewritten-exactly recording Binary 172 w .0 (binary-written .1) in
+    omega (arith, h recording w Binary (length w) (rewritten-exactly recording Binary (length w) w .1 (c, t, q, small, omega arith)))

@@ -15,7 +15,7 @@ use native.Mathlib.Omega.{arith}
 use borrow.Author.Tests.{leb-true, le-leb, leb-false}
 use lib.Dec.{leb}
 use lib.ListN.{length, getD}
-use Rattle.ground.specs.Said.{Said, says, refuses, _>>=_, _>>_, must}
+use Rattle.ground.specs.Said.{says, refuses, _>>_, must}
 use Rattle.ground.specs.Quoted.{quoted}
 use Rattle.ground.specs.Tables.{cat}
 use Rattle.ground.proofs.Cases.{on-test, clash}

@@ -4,7 +4,7 @@
 --     real-bare, any-bare, limits-bare       reals
 --     local-bare, code-bare                  time codes
 -- Assumes nothing.
-use mathlib.Core.Path.{_≡_, refl, sym, ap, _∙_}
+use mathlib.Core.Path.{_≡_, refl, ap, _∙_}
 use mathlib.Core.Bool.{Bool, true, false}
 use mathlib.Core.List.{List, [], _∷_, _++_, append-assoc}
 use Prim.Native.Nat.{ℕ, _≤_}
@@ -14,10 +14,9 @@ use lib.IntN.{ℤ}
 use lib.ListN.{length}
 use Rattle.ground.specs.Quoted.{quoted}
 use Rattle.ground.proofs.Cases.{clash}
-use Rattle.numerals.specs.Counts.{leadingSpaces}
 use Rattle.numerals.proofs.PlainLaws.{digits-no-space}
 use Rattle.reals.specs.declared.Real.{Real}
-use Rattle.paper.specs.Fields.{spaces, signText, none, withH, CountField, CountIn, LetteredForm, Lettered, RealField, AnyReal, LimitForm, LimitField, Limits, CodeForm, CodeField, XField}
+use Rattle.paper.specs.Fields.{spaces, Sign, signText, none, Decimal, withH, CountField, CountIn, Lettered, RealField, AnyReal, LimitField, Limits, CodeField, XField}
 use Rattle.paper.specs.Lines.{LocalField}
 use Rattle.exact.proofs.CountLaws.{digits-to, spaces-rest}
 use Rattle.exact.proofs.WholeLaws.{digitFirst, digits-first, sign-spaces}
@@ -66,13 +65,17 @@ lettered-bare letter high v f w =
       greatest = w .greatest;
     }
 
+-- a sign and a decimal after the spaces
+decimal-bare : (n : ℕ) (g : Sign) (size f : List ℕ) → f ≡ spaces n ++ (signText g ++ size) → Decimal size → bare f ≡ signText g ++ size
+decimal-bare n g size f e d = spaces-rest n f (signText g ++ size) e (sign-spaces g size (decimal-first size d))
+
 pub real-bare : (r : Real) (f : List ℕ) → RealField r f → RealField r (bare f)
 real-bare r f w =
     record {
       leading = 0;
       sign = w .sign;
       size = w .size;
-      text = spaces-rest (w .leading) f (signText (w .sign) ++ w .size) (w .text) (sign-spaces (w .sign) (w .size) (decimal-first (w .size) (w .decimal)));
+      text = decimal-bare (w .leading) (w .sign) (w .size) f (w .text) (w .decimal);
       decimal = w .decimal;
       short = bare-fits f 32 (w .short);
       worth = w .worth;
@@ -89,7 +92,7 @@ limit-bare z f h =
         leading = 0;
         sign = w .sign;
         size = w .size;
-        text = spaces-rest (w .leading) f (signText (w .sign) ++ w .size) (w .text) (sign-spaces (w .sign) (w .size) (decimal-first (w .size) (w .decimal)));
+        text = decimal-bare (w .leading) (w .sign) (w .size) f (w .text) (w .decimal);
         decimal = w .decimal;
         short = bare-fits f 13 (w .short);
         scale = w .scale;

@@ -5,25 +5,24 @@
 --     kind-long, word-short      the kind's line has at least 5 characters, and its word at most 8
 --     station-written to quality-written     each line of a configuration, and the kind's line in another kind
 -- Assumes nothing.
-use mathlib.Core.Path.{_≡_, refl, sym, ap, _∙_}
+use mathlib.Core.Path.{_≡_, refl, ap, _∙_}
 use mathlib.Core.Logic.{_⊎_, inl, inr}
 use mathlib.Core.Bool.{Bool, true, false}
-use mathlib.Core.List.{List, [], _∷_, _++_, append-nil}
+use mathlib.Core.List.{List, [], _∷_, append-nil}
 use Prim.Native.Nat.{ℕ, suc, _+_, _-_, _≤_}
 use native.Mathlib.Omega.{arith}
 use lib.Dec.{lit≤}
 use lib.IntN.{ℤ}
 use lib.ListN.{length}
-use Rattle.ground.specs.Tables.{every}
-use Rattle.text.specs.Fields.{commas, fieldCount, fieldAt}
+use Rattle.text.specs.Fields.{fieldCount, fieldAt}
 use Rattle.numerals.specs.Counts.{leadingSpaces}
 use Rattle.reals.specs.declared.Real.{Real}
 use Rattle.reals.specs.declared.Real.the-variants as real
 use Rattle.model.specs.declared.Kind.{Kind}
 use Rattle.model.specs.declared.Kind.the-variants.{Ascii, Binary, Binary32}
 use Rattle.model.specs.Kinds.{kindName}
-use Rattle.paper.specs.Fields.{isBetween, lowered, kindWord, AnyReal}
-use Rattle.paper.specs.Lines.{Line, Fields, ChannelsLine, ChannelNames, AnalogLine, StatusLine, FrequencyLine, RatesLine, RateLine, KindLine, MultiplierLine, CodesLine}
+use Rattle.paper.specs.Fields.{lowered, kindWord, AnyReal}
+use Rattle.paper.specs.Lines.{Line, Fields, ChannelsLine, AnalogLine, StatusLine, FrequencyLine, RatesLine, RateLine, KindLine, MultiplierLine, CodesLine}
 use Rattle.exact.proofs.CountLaws.{spaces-split}
 use Rattle.exact.proofs.CommaLaws.{fields-exactly, fields-of}
 use Rattle.rewrite_lines.specs.declared.LineSort.{LineSort}

@@ -4,7 +4,7 @@
 --     rewritten-long              it is longer by at most 5 bytes
 --     rewritten-lines             it is the lines of the configuration, each as it is written, with its CR LF
 -- Assumes nothing.
-use mathlib.Core.Path.{_≡_, refl, sym, ap, _∙_}
+use mathlib.Core.Path.{_≡_, refl, ap, _∙_}
 use mathlib.Core.Logic.{_⊎_, inl, inr}
 use mathlib.Core.List.{List, [], _∷_, _++_, append-assoc, append-nil}
 use Prim.Native.Nat.{ℕ, _+_, _≤_, max}
@@ -15,8 +15,8 @@ use Rattle.ground.specs.Tables.{cat}
 use Rattle.model.specs.declared.Kind.{Kind}
 use Rattle.config_rules.specs.declared.Config.{Config}
 use Rattle.config_rules.specs.Shown.{withKind}
-use Rattle.paper.specs.Lines.{Line, ended, rateSign, AnalogLine, StatusLine}
-use Rattle.paper.specs.Configuration.{Lines, RateLines, Configuration}
+use Rattle.paper.specs.Lines.{ended, rateSign, AnalogLine, StatusLine}
+use Rattle.paper.specs.Configuration.{Lines, Configuration}
 use Rattle.exact_config.proofs.ExactLaws.{quality-some}
 use Rattle.rewrite_lines.specs.declared.LineSort.{LineSort}
 use Rattle.rewrite_lines.specs.declared.LineSort.the-variants.{Kept, Numbers, Analog, Status, Word}

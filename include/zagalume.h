@@ -2,7 +2,7 @@
  * zagalume.h: a proved loader of COMTRADE recordings (IEC 60255-24:2013; data files of the kinds ASCII, binary and binary32).
  *
  * Every call is answered, whatever its numbers and whatever the lent bytes hold; there is no error but a refusal.
- * A call returns its answer by value: yes, or no with the number of the rule that was broken and its place.
+ * A call returns its answer by value: yes, or no with a number, which says what is wrong, and the place.
  * "No" changes no lent byte. "Yes" changes only the places or bytes that it reports.
  *
  * What the caller owes, since nothing here can test it:

@@ -2,7 +2,7 @@
 //!
 //! A recording is a configuration and a data file. [`read_config`] gives the [`Layout`] that the other calls ask for; [`check`] tells whether a data file is fine,
 //! [`row`] shows a row, [`write_row`] writes one, [`bytes_needed`] and [`change`] turn a data file into another kind, and [`write_config`] gives the configuration that goes
-//! with it. A file that breaks a rule gives a [`Refusal`], with the rule's number and its place; [`reason`] says a number in words. On a refusal nothing that was lent has
+//! with it. A file that breaks a rule gives a [`Refusal`], with its number and its place; [`reason`] says a number in words. On a refusal nothing that was lent has
 //! changed.
 //!
 //! ```no_run

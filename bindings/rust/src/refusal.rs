@@ -13,7 +13,7 @@ use std::fmt;
 /// ```
 #[derive(Debug, Clone, Copy, PartialEq, Eq, Hash)]
 pub struct Refusal {
-    /// The rule's number, one of [`refused`].
+    /// What is wrong, one of [`refused`].
     pub number: u32,
     /// The line of the configuration (numbers 2 to 9) or the row of the data file (11 to 16), from 1; 0 for the whole file.
     pub at: u32,

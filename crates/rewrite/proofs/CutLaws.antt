@@ -4,15 +4,14 @@
 --     lines-next, lines-last     lines that are written anew: one, and then the others; the last one
 --     lines-again                lines that were written, written anew, where that does not depend on how they were written
 -- Assumes nothing.
-use mathlib.Core.Path.{_≡_, refl, sym, _∙_}
+use mathlib.Core.Path.{_≡_, refl, _∙_}
 use mathlib.Core.Bool.{true}
 use mathlib.Core.List.{List, [], _∷_, _++_, append-nil}
 use Prim.Native.Nat.{ℕ, _+_, _≤_}
-use native.Mathlib.Nat.{zero-add}
 use native.Mathlib.Omega.{arith}
 use borrow.Author.Tests.{ne-eqb}
 use lib.ListN.{length, take, drop, length-append}
-use lib.Seq.{take-length, drop-length, take-append-seam, drop-append-add}
+use lib.Seq.{take-length, take-append-seam, drop-append-add}
 use Rattle.text.specs.declared.Scanned.{Scanned}
 use Rattle.text.specs.declared.Scanned.the-variants.{Line, Ends, Bad}
 use Rattle.text.specs.Lines.{scanLine, scanLastLine, lineBytes}

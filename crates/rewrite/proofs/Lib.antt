@@ -1,1 +1,5 @@
+pub mod SortLaws
 pub mod CutLaws
+pub mod TurnLaws
+pub mod PutLaws
+pub mod SmallLaws

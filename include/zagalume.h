@@ -22,14 +22,14 @@
  * as tools/stack measures it:
  *
  *                     x86-64      aarch64
- *     zl_config           800         832
- *     zl_write_config       ?           ?
+ *     zl_config          1264        1280
+ *     zl_write_config    1376        1472
  *     zl_check            352         304
  *     zl_row             3344        2864
  *     zl_write_row       2576        2544
  *     zl_length          2032        1920
  *     zl_change          4224        3424
- *     zl_reason           704         704
+ *     zl_reason           720         720
  */
 #ifndef ZAGALUME_H
 #define ZAGALUME_H

@@ -18,19 +18,22 @@ use Rattle.rewrite_lines.specs.declared.LineSort.the-variants.{Kept, Numbers, A
 use Rattle.rewrite_lines.specs.Lines.{lineText}
 use Rattle.rewrite.specs.declared.Cut.{Cut}
 
+-- What is done with each line of a configuration, from the first to the last
 -- the two dates, the kind, the time multiplier, the time codes, the time quality
 abbrev pub lastSorts : List LineSort
 lastSorts = Kept ∷ Kept ∷ Word ∷ Numbers ∷ Numbers ∷ Kept ∷ []
 
--- what is done with each line: the station; TT, A and D; the analog channels; the status channels; the line frequency; the number of rates, and a line for each; the last lines
+-- the line frequency, the number of rates, a line for each, and then those
+abbrev pub rateSorts : ℕ → List LineSort
+rateSorts rates = Numbers ∷ Numbers ∷ (replicate (max 1 rates) Numbers ++ lastSorts)
+
+-- the analog channels, the status channels, and then those
+abbrev pub channelSorts : Config → List LineSort
+channelSorts c = replicate (c .layout .analogs) Analog ++ (replicate (c .layout .statuses) Status ++ rateSorts (c .rates))
+
+-- the station; TT, A and D; and then those
 unfoldable pub sorts : Config → List LineSort
-sorts c =
-    Kept ∷ Numbers ∷
-    (replicate (c .layout .analogs) Analog
-    ++ (replicate (c .layout .statuses) Status
-    ++ (Numbers ∷ Numbers ∷
-    (replicate (max 1 (c .rates)) Numbers
-    ++ lastSorts))))
+sorts c = Kept ∷ Numbers ∷ channelSorts c
 
 -- a line that was scanned: its length, and what it takes with its end
 abbrev pub cutOf : Scanned → Cut

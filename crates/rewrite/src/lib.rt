@@ -9,13 +9,13 @@ use text::Scanned;
 ghost use mathlib.Core.Path.{_≡_};
 ghost use mathlib.Core.List.{[], _∷_, _++_};
 ghost use Prim.Native.Nat.{_+_, _^_, _≤_, max};
-ghost use lib.ListN.{length, getD, replicate};
+ghost use lib.ListN.{length, getD};
 ghost use Rattle.ground.specs.Said.{over};
 ghost use Rattle.model.specs.Refusals.{writtenOf, FewBytes};
 ghost use Rattle.pieces.specs.Inner.{Put};
-ghost use Rattle.rewrite_lines.specs.declared.LineSort.the-variants.{Kept, Numbers, Analog, Status};
+ghost use Rattle.rewrite_lines.specs.declared.LineSort.the-variants.{Kept};
 ghost use Rattle.rewrite_lines.specs.Lines.{lineText};
-ghost use Rattle.rewrite.specs.Rewrite.{lastSorts, sorts, cutLine, rewritten, resultSaid, rewriteSaid};
+ghost use Rattle.rewrite.specs.Rewrite.{lastSorts, rateSorts, channelSorts, sorts, cutLine, rewritten, resultSaid, rewriteSaid};
 
 // The most bytes of a configuration.
 const MOST: usize = 65536;
@@ -62,9 +62,9 @@ fn last_sort(n: usize) -> LineSort
     LineSort::Kept
 }
 
-// What is done with the n-th line of the rates and after them, counted from 0: the line frequency, the number of rates and a line for each come first.
+// What is done with the n-th line from the line frequency on, counted from 0.
 fn rate_sort(rates: u32, n: usize) -> LineSort
-    ensures { λ r. ⌜ r ≡ getD (Numbers ∷ Numbers ∷ (replicate (max 1 rates) Numbers ++ lastSorts)) n Kept ⌝ }
+    ensures { λ r. ⌜ r ≡ getD (rateSorts rates) n Kept ⌝ }
 {
     let m = 2 + rate_lines(rates);
     if n < m {
@@ -73,9 +73,9 @@ fn rate_sort(rates: u32, n: usize) -> LineSort
     last_sort(n - m)
 }
 
-// What is done with the n-th line of the channels and after them, counted from 0.
+// What is done with the n-th line from the first channel on, counted from 0.
 fn channel_sort(config: Config, n: usize) -> LineSort
-    ensures { λ r. ⌜ r ≡ getD (replicate (config .layout .analogs) Analog ++ (replicate (config .layout .statuses) Status ++ (Numbers ∷ Numbers ∷ (replicate (max 1 (config .rates)) Numbers ++ lastSorts)))) n Kept ⌝ }
+    ensures { λ r. ⌜ r ≡ getD (channelSorts config) n Kept ⌝ }
 {
     let a = config.layout.analogs as usize;
     if n < a {

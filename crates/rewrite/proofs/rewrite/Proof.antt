@@ -1,8 +1,9 @@
 -- `rewrite::rewrite` meets its contract: too long, no room, or all is put.
 use native.Mathlib.Omega.{arith}
 use borrow.Author.Tests.{le-leb, lt-leb}
+use lib.ListN.{length}
 use Rattle.pieces.proofs.Laws.{put-all-of}
-use Rattle.rewrite.specs.Rewrite.{resultSaid}
+use Rattle.rewrite.specs.Rewrite.{rewritten, resultSaid}
 use borrow.Author.Needs.{needs}
 use Rattle.rewrite.proofs.rewrite.Statement.{statement}
 use Rattle.rewrite.proofs.rewrite.Tie as tie
@@ -16,7 +17,9 @@ refused-requires c κs = search needs
 returns : tie.Need-returns
 unfolding resultSaid
 returns c =
-    let e = lt-leb _ 65536 (rw (c .before .before .rewritten-length .ensures) at (c .before .if1 .taken)) in
+    let s = c .before .before in
+    let a = s .before .before .before .args in
+    let e = lt-leb (length (rewritten (a .config) (a .kind) (a .cfg .now))) 65536 (omega (arith, s .rewritten-length .ensures, c .before .if1 .taken)) in
     ((rw (c .refused .ensures, e), tt), rw e)
 
 refused-requires-2 : tie.Need-refused-requires-2
@@ -25,8 +28,11 @@ refused-requires-2 c κs = search needs
 returns-2 : tie.Need-returns-2
 unfolding resultSaid
 returns-2 c =
-    let e = le-leb _ 65536 (rw (c .before .before .before .rewritten-length .ensures) at (c .before .before .if1 .left)) in
-    let f = lt-leb _ _ (rw (c .before .before .before .rewritten-length .ensures) at (c .before .if2 .taken)) in
+    let s = c .before .before .before in
+    let a = s .before .before .before .args in
+    let size = length (rewritten (a .config) (a .kind) (a .cfg .now)) in
+    let e = le-leb size 65536 (omega (arith, s .rewritten-length .ensures, c .before .before .if1 .left)) in
+    let f = lt-leb size (length (a .out .now)) (omega (arith, s .rewritten-length .ensures, c .before .if2 .taken)) in
     ((rw (c .refused2 .ensures, e, f), tt), rw (e, f))
 
 put-rewritten-requires : tie.Need-put-rewritten-requires
@@ -38,8 +44,12 @@ same-length c = search needs
 returns-3 : tie.Need-returns-3
 unfolding resultSaid
 returns-3 c =
-    let e = le-leb _ 65536 (rw (c .before .before .before .before .before .before .rewritten-length .ensures) at (c .before .before .before .before .before .if1 .left)) in
-    let f = le-leb _ _ (rw (c .before .before .before .before .before .before .rewritten-length .ensures) at (c .before .before .before .before .if2 .left)) in
+    let i = c .before .before .before .before in
+    let s = i .before .before in
+    let a = s .before .before .before .args in
+    let size = length (rewritten (a .config) (a .kind) (a .cfg .now)) in
+    let e = le-leb size 65536 (omega (arith, s .rewritten-length .ensures, i .before .if1 .left)) in
+    let f = le-leb size (length (a .out .now)) (omega (arith, s .rewritten-length .ensures, i .if2 .left)) in
     let w = put-all-of (c .before .before .put-rewritten .ensures) in
     ((rw (e, f, w .0), omega arith), rw (e, f) (w .1))
 

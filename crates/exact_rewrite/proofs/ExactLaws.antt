@@ -35,8 +35,9 @@ use Rattle.exact_config.proofs.ExactLaws.{config-exactly, one-config}
 use Rattle.rewrite_lines.specs.declared.LineSort.the-variants.{Kept}
 use Rattle.rewrite_lines.specs.Lines.{lineText}
 use Rattle.rewrite_lines.proofs.LineLaws.{line-bytes, line-again}
-use Rattle.rewrite.specs.Rewrite.{sorts, rewritten, resultSaid, rewriteSaid}
-use Rattle.rewrite.proofs.CutLaws.{lines-again}
+use Rattle.rewrite_sorts.specs.Sorts.{sorts}
+use Rattle.rewrite.specs.Rewrite.{rewritten, resultSaid, rewriteSaid}
+use Rattle.rewrite.proofs.LinesLaws.{lines-again}
 use Rattle.exact_rewrite.specs.Lines.{LineWritten}
 use Rattle.exact_rewrite.proofs.LineLaws.{line-written}
 use Rattle.exact_rewrite.proofs.WholeLaws.{rewritten-configuration, rewritten-long, rewritten-lines}

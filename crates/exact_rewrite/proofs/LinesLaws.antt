@@ -22,8 +22,9 @@ use Rattle.paper.specs.Lines.{Line, ended, RateLine}
 use Rattle.paper.specs.Configuration.{Lines, RateLines}
 use Rattle.rewrite_lines.specs.declared.LineSort.{LineSort}
 use Rattle.rewrite_lines.specs.declared.LineSort.the-variants.{Kept}
-use Rattle.rewrite.specs.Rewrite.{cutLine, linesText}
-use Rattle.rewrite.proofs.CutLaws.{lines-next, lines-last}
+use Rattle.rewrite_sorts.specs.Cuts.{cutLine}
+use Rattle.rewrite.specs.Rewrite.{linesText}
+use Rattle.rewrite.proofs.LinesLaws.{lines-next, lines-last}
 
 -- line i of a text, counted from 0
 abbrev pub lineAt : ℕ → List ℕ → List ℕ

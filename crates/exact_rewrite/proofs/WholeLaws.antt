@@ -21,7 +21,8 @@ use Rattle.exact_config.proofs.ExactLaws.{quality-some}
 use Rattle.rewrite_lines.specs.declared.LineSort.{LineSort}
 use Rattle.rewrite_lines.specs.declared.LineSort.the-variants.{Kept, Numbers, Analog, Status, Word}
 use Rattle.rewrite_lines.specs.Lines.{lineText}
-use Rattle.rewrite.specs.Rewrite.{lastSorts, sorts, linesText, rewritten}
+use Rattle.rewrite_sorts.specs.Sorts.{lastSorts, sorts}
+use Rattle.rewrite.specs.Rewrite.{linesText, rewritten}
 use Rattle.exact_rewrite.proofs.LineLaws.{kept-written, channels-written, analog-written, status-written, frequency-written, rates-written, rate-written, kind-written, multiplier-written, codes-written}
 use Rattle.exact_rewrite.proofs.LineLaws.{kept-short, numbers-short, analog-short, status-short, word-short, kind-long}
 use Rattle.exact_rewrite.proofs.LinesLaws.{lineAt, next, last, split, group-lines, rate-group, rate-lines, same, short, lines-are}

@@ -1,5 +1,4 @@
-pub mod SortLaws
-pub mod CutLaws
+pub mod LinesLaws
 pub mod TurnLaws
 pub mod PutLaws
 pub mod SmallLaws

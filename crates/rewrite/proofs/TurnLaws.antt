@@ -13,8 +13,9 @@ use Rattle.ground.specs.Tables.{part}
 use Rattle.ground.proofs.Walk.{here-any, done, rest}
 use Rattle.rewrite_lines.specs.declared.LineSort.{LineSort}
 use Rattle.rewrite_lines.specs.declared.LineSort.the-variants.{Kept}
-use Rattle.rewrite.specs.declared.Cut.{Cut}
-use Rattle.rewrite.specs.Rewrite.{cutLine, linesText}
+use Rattle.rewrite_sorts.specs.declared.Cut.{Cut}
+use Rattle.rewrite_sorts.specs.Cuts.{cutLine}
+use Rattle.rewrite.specs.Rewrite.{linesText}
 
 -- line n, which begins at `at`
 module _ (anew : LineSort → List ℕ → List ℕ) (all : List LineSort) (s : List ℕ) (n at : ℕ) where

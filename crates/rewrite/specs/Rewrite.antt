@@ -1,12 +1,9 @@
 -- A configuration written again in a kind: the kind's word, numbers and codes without leading spaces, all else as it stands, CR LF on each line.
 use mathlib.Core.List.{List, [], _∷_, _++_}
-use Prim.Native.Nat.{ℕ, _+_, max}
+use Prim.Native.Nat.{ℕ}
 use lib.Dec.{leb}
-use lib.ListN.{length, replicate, take, drop}
+use lib.ListN.{length, take, drop}
 use Rattle.ground.specs.Said.{Said, says, _>>=_, _>>_, must}
-use Rattle.text.specs.declared.Scanned.{Scanned}
-use Rattle.text.specs.declared.Scanned.the-variants.{Line, Ends, Bad}
-use Rattle.text.specs.Lines.{scanLastLine}
 use Rattle.model.specs.declared.Kind.{Kind}
 use Rattle.model.specs.declared.Refusal.{Refusal}
 use Rattle.model.specs.Refusals.{refused}
@@ -14,36 +11,9 @@ use Rattle.config_rules.specs.declared.Config.{Config}
 use Rattle.config.specs.Config.{readConfig}
 use Rattle.config.specs.Said.{configSaid}
 use Rattle.rewrite_lines.specs.declared.LineSort.{LineSort}
-use Rattle.rewrite_lines.specs.declared.LineSort.the-variants.{Kept, Numbers, Analog, Status, Word}
 use Rattle.rewrite_lines.specs.Lines.{lineText}
-use Rattle.rewrite.specs.declared.Cut.{Cut}
-
--- What is done with each line of a configuration, from the first to the last
--- the two dates, the kind, the time multiplier, the time codes, the time quality
-abbrev pub lastSorts : List LineSort
-lastSorts = Kept ∷ Kept ∷ Word ∷ Numbers ∷ Numbers ∷ Kept ∷ []
-
--- the line frequency, the number of rates, a line for each, and then those
-abbrev pub rateSorts : ℕ → List LineSort
-rateSorts rates = Numbers ∷ Numbers ∷ (replicate (max 1 rates) Numbers ++ lastSorts)
-
--- the analog channels, the status channels, and then those
-abbrev pub channelSorts : Config → List LineSort
-channelSorts c = replicate (c .layout .analogs) Analog ++ (replicate (c .layout .statuses) Status ++ rateSorts (c .rates))
-
--- the station; TT, A and D; and then those
-unfoldable pub sorts : Config → List LineSort
-sorts c = Kept ∷ Numbers ∷ channelSorts c
-
--- a line that was scanned: its length, and what it takes with its end
-abbrev pub cutOf : Scanned → Cut
-cutOf (Line len taken) = record { len = len; taken = taken }
-cutOf Ends = record { len = 0; taken = 0 }
-cutOf Bad = record { len = 0; taken = 0 }
-
--- the line with which s begins; any line, since where a line ends with CR LF it does not matter that the last one need not
-unfoldable pub cutLine : List ℕ → Cut
-cutLine s = cutOf (scanLastLine (length s) s)
+use Rattle.rewrite_sorts.specs.Sorts.{sorts}
+use Rattle.rewrite_sorts.specs.Cuts.{cutLine}
 
 -- lines of these sorts, with which s begins, each written anew by its sort, with CR LF
 unfoldable pub linesText : (LineSort → List ℕ → List ℕ) → List LineSort → List ℕ → List ℕ

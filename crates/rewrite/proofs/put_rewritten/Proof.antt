@@ -9,7 +9,8 @@ use lib.ListN.{length, drop, length-append}
 use Rattle.ground.specs.Tables.{part}
 use Rattle.ground.proofs.Parts.{length-part}
 use Rattle.rewrite_lines.specs.Lines.{lineText}
-use Rattle.rewrite.specs.Rewrite.{sorts, linesText, rewritten}
+use Rattle.rewrite_sorts.specs.Sorts.{sorts}
+use Rattle.rewrite.specs.Rewrite.{linesText, rewritten}
 use Rattle.rewrite.proofs.PutLaws.{Walked, walked-start, walked-room, walked-next, walked-end}
 use Rattle.rewrite.proofs.TurnLaws.{lines-ended, lines-done}
 use Rattle.rewrite.proofs.put_rewritten.Statement.{statement}

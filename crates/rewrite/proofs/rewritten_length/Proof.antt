@@ -9,7 +9,8 @@ use lib.ListN.{length, drop}
 use Rattle.ground.specs.Tables.{part}
 use Rattle.ground.proofs.Parts.{length-part, length-part-le}
 use Rattle.rewrite_lines.specs.Lines.{lineText}
-use Rattle.rewrite.specs.Rewrite.{sorts, linesText, rewritten}
+use Rattle.rewrite_sorts.specs.Sorts.{sorts}
+use Rattle.rewrite.specs.Rewrite.{linesText, rewritten}
 use Rattle.rewrite.proofs.TurnLaws.{length-turn, lines-done}
 use Rattle.rewrite.proofs.rewritten_length.Statement.{statement}
 use Rattle.rewrite.proofs.rewritten_length.Tie as tie

@@ -1,13 +1,13 @@
--- `rewrite::sort_of` meets its contract: the first two lines, and then the channels.
+-- `rewrite_sorts::sort_of` meets its contract: the first two lines, and then the channels.
 use mathlib.Core.Path.{_≡_, sym, ap, _∙_}
 use Prim.Native.Nat.{ℕ, suc, _-_}
 use native.Mathlib.Omega.{arith}
 use lib.ListN.{getD}
 use Rattle.rewrite_lines.specs.declared.LineSort.the-variants.{Kept}
-use Rattle.rewrite.specs.Rewrite.{sorts}
+use Rattle.rewrite_sorts.specs.Sorts.{sorts}
 use borrow.Author.Needs.{needs}
-use Rattle.rewrite.proofs.sort_of.Statement.{statement}
-use Rattle.rewrite.proofs.sort_of.Tie as tie
+use Rattle.rewrite_sorts.proofs.sort_of.Statement.{statement}
+use Rattle.rewrite_sorts.proofs.sort_of.Tie as tie
 
 returns : tie.Need-returns
 unfolding sorts

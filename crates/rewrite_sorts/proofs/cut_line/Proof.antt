@@ -1,4 +1,4 @@
--- `rewrite::cut_line` meets its contract: the line that was scanned, or none.
+-- `rewrite_sorts::cut_line` meets its contract: the line that was scanned, or none.
 use mathlib.Core.Path.{_≡_, refl, sym, ap, _∙_, subst}
 use mathlib.Core.List.{[], _∷_}
 use Prim.Native.Nat.{_≤_}
@@ -10,11 +10,11 @@ use borrow.Author.Needs.{needs}
 use Rattle.text.specs.declared.Scanned.{Scanned}
 use Rattle.text.specs.declared.Scanned.the-variants.{Line, Ends, Bad}
 use Rattle.text.proofs.Scanned.{the-type}
-use Rattle.rewrite.specs.declared.Cut.{Cut}
-use Rattle.rewrite.specs.Rewrite.{cutOf, cutLine}
-use Rattle.rewrite.proofs.CutLaws.{cut-within}
-use Rattle.rewrite.proofs.cut_line.Statement.{statement}
-use Rattle.rewrite.proofs.cut_line.Tie as tie
+use Rattle.rewrite_sorts.specs.declared.Cut.{Cut}
+use Rattle.rewrite_sorts.specs.Cuts.{cutOf, cutLine}
+use Rattle.rewrite_sorts.proofs.CutLaws.{cut-within}
+use Rattle.rewrite_sorts.proofs.cut_line.Statement.{statement}
+use Rattle.rewrite_sorts.proofs.cut_line.Tie as tie
 
 -- where no line was found
 none : (k : Scanned) → OneOf (1 ∷ 2 ∷ []) (tagOf the-type k) → record { len = 0; taken = 0 } ≡ cutOf k

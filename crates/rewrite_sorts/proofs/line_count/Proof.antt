@@ -1,10 +1,10 @@
--- `rewrite::line_count` meets its contract.
+-- `rewrite_sorts::line_count` meets its contract.
 use mathlib.Core.Path.{sym}
 use native.Mathlib.Omega.{arith}
-use Rattle.rewrite.proofs.SortLaws.{sorts-length}
+use Rattle.rewrite_sorts.proofs.SortLaws.{sorts-length}
 use borrow.Author.Needs.{needs}
-use Rattle.rewrite.proofs.line_count.Statement.{statement}
-use Rattle.rewrite.proofs.line_count.Tie as tie
+use Rattle.rewrite_sorts.proofs.line_count.Statement.{statement}
+use Rattle.rewrite_sorts.proofs.line_count.Tie as tie
 
 cast-a : tie.Need-cast-a
 cast-a c = search needs

@@ -1,23 +1,19 @@
--- Laws of the line with which a text begins, and of lines that are written one after the other.
+-- Laws of the line with which a text begins.
 --     cut-within, bytes-cut      the line and its end lie within the text, and its bytes are bytes of lines
 --     cut-ended, cut-last        a line that ends with CR LF is found, and so is one that ends with the text
---     lines-next, lines-last     lines that are written anew: one, and then the others; the last one
---     lines-again                lines that were written, written anew, where that does not depend on how they were written
 -- Assumes nothing.
-use mathlib.Core.Path.{_≡_, refl, _∙_}
+use mathlib.Core.Path.{_≡_, refl}
 use mathlib.Core.Bool.{true}
 use mathlib.Core.List.{List, [], _∷_, _++_, append-nil}
 use Prim.Native.Nat.{ℕ, _+_, _≤_}
 use native.Mathlib.Omega.{arith}
 use borrow.Author.Tests.{ne-eqb}
-use lib.ListN.{length, take, drop, length-append}
-use lib.Seq.{take-length, take-append-seam, drop-append-add}
+use lib.ListN.{length, take, length-append}
 use Rattle.text.specs.declared.Scanned.{Scanned}
 use Rattle.text.specs.declared.Scanned.the-variants.{Line, Ends, Bad}
 use Rattle.text.specs.Lines.{scanLine, scanLastLine, lineBytes}
 use Rattle.text.proofs.LineLaws.{FoundLast, last-found, bytes-passed, line-scanned}
-use Rattle.rewrite_lines.specs.declared.LineSort.{LineSort}
-use Rattle.rewrite.specs.Rewrite.{cutOf, cutLine, linesText}
+use Rattle.rewrite_sorts.specs.Cuts.{cutOf, cutLine}
 
 -- of a line, found or not
 within-of : (s : List ℕ) (k : Scanned) → FoundLast (length s) s k → (cutOf k .len ≤ cutOf k .taken) × (cutOf k .taken ≤ length s)
@@ -50,24 +46,3 @@ unfolding cutLine scanLastLine scanLine
 cut-last l ok h =
     let e = rw append-nil at (bytes-passed (length l) 0 l [] ok (omega arith)) in
     rw (ne-eqb (length l) 0 (λ z. omega arith), e)
-
--- lines that are written anew
-module _ (anew : LineSort → List ℕ → List ℕ) where
-  pub lines-next : (sort : LineSort) (more : List LineSort) (l u : List ℕ) → lineBytes l ≡ true
-      → linesText anew (sort ∷ more) (l ++ 13 ∷ 10 ∷ u) ≡ anew sort l ++ 13 ∷ 10 ∷ linesText anew more u
-  unfolding linesText
-  lines-next sort more l u ok = rw (cut-ended l u ok, take-append-seam l (13 ∷ 10 ∷ u), drop-append-add)
-
-  pub lines-last : (sort : LineSort) (l : List ℕ) → lineBytes l ≡ true → 1 ≤ length l → linesText anew (sort ∷ []) l ≡ anew sort l ++ 13 ∷ 10 ∷ []
-  unfolding linesText
-  lines-last sort l ok h = rw (cut-last l ok h, take-length)
-
-pub lines-again : (again anew : LineSort → List ℕ → List ℕ)
-    → ((sort : LineSort) (x : List ℕ) → lineBytes x ≡ true → (lineBytes (anew sort x) ≡ true) × (again sort (anew sort x) ≡ again sort x))
-    → (more : List LineSort) (s : List ℕ) → linesText again more (linesText anew more s) ≡ linesText again more s
-unfolding linesText
-lines-again again anew same [] s = refl
-lines-again again anew same (sort ∷ more) s =
-    let w = same sort (take (cutLine s .len) s) (bytes-cut s) in
-    lines-next again sort more (anew sort (take (cutLine s .len) s)) (linesText anew more (drop (cutLine s .taken) s)) (w .0)
-    ∙ rw (w .1, lines-again again anew same more (drop (cutLine s .taken) s))

@@ -1,12 +1,12 @@
--- `rewrite::channel_sort` meets its contract: the analog channels, the status channels, and then what follows them.
+-- `rewrite_sorts::channel_sort` meets its contract: the analog channels, the status channels, and then what follows them.
 use mathlib.Core.Path.{sym, _∙_}
 use Prim.Native.Nat.{_-_}
 use native.Mathlib.Omega.{arith}
 use Rattle.rewrite_lines.specs.declared.LineSort.the-variants.{Analog, Status}
-use Rattle.rewrite.proofs.SortLaws.{sort-group, sort-after}
+use Rattle.rewrite_sorts.proofs.SortLaws.{sort-group, sort-after}
 use borrow.Author.Needs.{needs}
-use Rattle.rewrite.proofs.channel_sort.Statement.{statement}
-use Rattle.rewrite.proofs.channel_sort.Tie as tie
+use Rattle.rewrite_sorts.proofs.channel_sort.Statement.{statement}
+use Rattle.rewrite_sorts.proofs.channel_sort.Tie as tie
 
 cast-a : tie.Need-cast-a
 cast-a c = search needs

@@ -1,4 +1,4 @@
--- `rewrite::last_sort` meets its contract: each of the last lines has its sort, and so has what follows them.
+-- `rewrite_sorts::last_sort` meets its contract: each of the last lines has its sort, and so has what follows them.
 use mathlib.Core.Path.{_≡_, refl, sym, ap, _∙_}
 use mathlib.Core.Logic.{⊎-elim}
 use mathlib.Core.List.{[], _∷_}
@@ -7,9 +7,9 @@ use native.Mathlib.Omega.{arith}
 use lib.ListN.{getD}
 use Rattle.ground.proofs.Cases.{lt-or-ge}
 use Rattle.rewrite_lines.specs.declared.LineSort.the-variants.{Kept, Numbers, Word}
-use Rattle.rewrite.specs.Rewrite.{lastSorts}
-use Rattle.rewrite.proofs.last_sort.Statement.{statement}
-use Rattle.rewrite.proofs.last_sort.Tie as tie
+use Rattle.rewrite_sorts.specs.Sorts.{lastSorts}
+use Rattle.rewrite_sorts.proofs.last_sort.Statement.{statement}
+use Rattle.rewrite_sorts.proofs.last_sort.Tie as tie
 
 dates : (n : ℕ) → n < 2 → Kept ≡ getD lastSorts n Kept
 dates n h = ⊎-elim (λ (l : n < 1). let e : n ≡ 0 = omega arith in rw e) (λ (l : 1 ≤ n). let e : n ≡ 1 = omega arith in rw e) (lt-or-ge n 1)

@@ -1,14 +1,14 @@
--- `rewrite::rate_sort` meets its contract: the line frequency, the number of rates and their lines are one group.
+-- `rewrite_sorts::rate_sort` meets its contract: the line frequency, the number of rates and their lines are one group.
 use mathlib.Core.Path.{_≡_, sym, ap, _∙_}
 use Prim.Native.Nat.{ℕ, suc, _+_, _-_, max}
 use native.Mathlib.Omega.{arith}
 use lib.ListN.{getD}
 use Rattle.rewrite_lines.specs.declared.LineSort.the-variants.{Kept, Numbers}
-use Rattle.rewrite.specs.Rewrite.{lastSorts}
-use Rattle.rewrite.proofs.SortLaws.{sort-group, sort-after}
+use Rattle.rewrite_sorts.specs.Sorts.{lastSorts}
+use Rattle.rewrite_sorts.proofs.SortLaws.{sort-group, sort-after}
 use borrow.Author.Needs.{needs}
-use Rattle.rewrite.proofs.rate_sort.Statement.{statement}
-use Rattle.rewrite.proofs.rate_sort.Tie as tie
+use Rattle.rewrite_sorts.proofs.rate_sort.Statement.{statement}
+use Rattle.rewrite_sorts.proofs.rate_sort.Tie as tie
 
 rate-lines-requires : tie.Need-rate-lines-requires
 rate-lines-requires c κs = search needs

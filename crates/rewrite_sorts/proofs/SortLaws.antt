@@ -11,7 +11,7 @@ use lib.ListN.{length, getD, replicate, length-append, length-replicate}
 use Rattle.config_rules.specs.declared.Config.{Config}
 use Rattle.rewrite_lines.specs.declared.LineSort.{LineSort}
 use Rattle.rewrite_lines.specs.declared.LineSort.the-variants.{Kept}
-use Rattle.rewrite.specs.Rewrite.{sorts}
+use Rattle.rewrite_sorts.specs.Sorts.{sorts}
 
 module _ (a : LineSort) (more : List LineSort) where
   pub sort-group : (m n : ℕ) → n < m → getD (replicate m a ++ more) n Kept ≡ a

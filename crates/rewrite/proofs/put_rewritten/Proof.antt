@@ -11,7 +11,7 @@ use Rattle.ground.proofs.Parts.{length-part}
 use Rattle.rewrite_lines.specs.Lines.{lineText}
 use Rattle.rewrite_sorts.specs.Sorts.{sorts}
 use Rattle.rewrite.specs.Rewrite.{linesText, rewritten}
-use Rattle.rewrite.proofs.PutLaws.{Walked, walked-start, walked-room, walked-next, walked-end}
+use Rattle.rewrite.proofs.PutLaws.{SoFar, so-far-start, so-far-room, so-far-next, so-far-end}
 use Rattle.rewrite.proofs.TurnLaws.{lines-ended, lines-done}
 use Rattle.rewrite.proofs.put_rewritten.Statement.{statement}
 use Rattle.rewrite.proofs.put_rewritten.Tie as tie
@@ -19,7 +19,7 @@ use Rattle.rewrite.proofs.put_rewritten.Tie as tie
 abbrev Inv-loop : tie.InvT-loop
 Inv-loop out₀ config kind cfg lines to₀ at₀ n₀ out to at n =
     (n ≤ lines) × (at ≤ length cfg) × (length out ≡ length out₀)
-    × Walked out₀ out to (linesText (lineText kind) (drop n (sorts config)) (drop at cfg)) (rewritten config kind cfg)
+    × SoFar out₀ out to (linesText (lineText kind) (drop n (sorts config)) (drop at cfg)) (rewritten config kind cfg)
 
 abbrev μ-loop : tie.MeasureT-loop
 μ-loop out₀ config kind cfg lines to₀ at₀ n₀ out to at n = lines - n
@@ -29,7 +29,7 @@ line-count-requires c κs = search needs
 
 loop-holds : tie.Need-loop-holds Inv-loop μ-loop
 unfolding rewritten
-loop-holds c = (omega arith, omega arith, refl, walked-start _ _)
+loop-holds c = (omega arith, omega arith, refl, so-far-start _ _)
 
 sub-cut-line : tie.Need-sub-cut-line Inv-loop μ-loop
 sub-cut-line c = search needs
@@ -62,7 +62,7 @@ part-put-ended-end c = search needs
 turn : (c : tie.After-put-ended-arg2 Inv-loop μ-loop)
     → let w = c .before .before .before .before in let p = w .before .before .before .loop in let a = w .before .before .before .before .before .before .before .args in
     let cut = w .cut-line .result in
-    Walked (a .out .now) (p .out) (p .to)
+    SoFar (a .out .now) (p .out) (p .to)
     ((lineText (a .kind) (c .before .sort-of .result) (part (p .at) (p .at + cut .len) (a .cfg .now)) ++ 13 ∷ 10 ∷ [])
     ++ linesText (lineText (a .kind)) (drop (p .n + 1) (sorts (a .config))) (drop (p .at + cut .taken) (a .cfg .now))) (rewritten (a .config) (a .kind) (a .cfg .now))
 turn c =
@@ -83,7 +83,7 @@ put-ended-requires c κs =
     let cut = w .cut-line .result in
     let line = lineText (a .kind) (c .before .sort-of .result) (part (p .at) (p .at + cut .len) (a .cfg .now)) in
     let others = linesText (lineText (a .kind)) (drop (p .n + 1) (sorts (a .config))) (drop (p .at + cut .taken) (a .cfg .now)) in
-    omega (arith, walked-room (line ++ 13 ∷ 10 ∷ []) others (turn c), length-append line (13 ∷ 10 ∷ []), p .inv .2, s .pre)
+    omega (arith, so-far-room (line ++ 13 ∷ 10 ∷ []) others (turn c), length-append line (13 ∷ 10 ∷ []), p .inv .2, s .pre)
 
 add-at : tie.Need-add-at Inv-loop μ-loop
 add-at c = search needs
@@ -104,7 +104,7 @@ loop-again c =
       omega (arith, w .before .before .loop-test .taken),
       omega (arith, w .cut-line .ensures .1 .1, end),
       put .kept .0 ∙ p .inv .2,
-      walked-next _ _ (turn (c .before .before .before .before)) (put .ensures),
+      so-far-next _ _ (turn (c .before .before .before .before)) (put .ensures),
     )
 
 same-length : tie.Need-same-length Inv-loop μ-loop
@@ -115,7 +115,7 @@ returns c =
     let a = c .before .before .before .before .before .args in
     let p = c .before .loop in
     let e = lines-done (lineText (a .kind)) (sorts (a .config)) (a .cfg .now) (p .n) (p .at) (omega (arith, c .loop-test .left, c .before .before .line-count .ensures .0)) in
-    walked-end (rw e at (p .inv .3))
+    so-far-end (rw e at (p .inv .3))
 
 pub put-rewritten-spec : {M : Type 1} → statement M
 put-rewritten-spec =

@@ -6,7 +6,7 @@
 --     alike, no-such-row      what the check of a file refuses, showing a row of it, the length question and the change refuse alike; 15 comes before the file
 --     as-the-question         the change refuses as the length question does, or else with 17
 --     never-17                the length question never says 17
---     as-the-reader           the writer of a configuration refuses as its reader does, whatever the kind and the room; it says 10 only of a configuration that is accepted
+--     as-the-reader           the writer of a configuration refuses as its reader does, whatever the kind and the room
 --     all-placed              each call gives each number at the place that the table has for it (Placed.antt)
 --     shown-as-given          demand 2 of the exported pair: a row that zl_write_row takes is the one that zl_row shows with the places that it was given in
 -- Assumes nothing.

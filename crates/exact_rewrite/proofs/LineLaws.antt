@@ -1,7 +1,6 @@
 -- A line as it is written is what it was: the record of a line holds of it.
 --     fields-written             its fields are those of the line, each as it is written
 --     line-written               so it is what the line is written as, told by its fields
---     kept-short, numbers-short, analog-short, status-short     a line but the kind's is no longer than it was
 --     kind-long, word-short      the kind's line has at least 5 characters, and its word at most 8
 --     station-written to quality-written     each line of a configuration, and the kind's line in another kind
 -- Assumes nothing.
@@ -31,7 +30,6 @@ use Rattle.rewrite_lines.specs.Lines.{isNumber, bare, fieldText, fieldsText, li
 use Rattle.pieces.proofs.Laws.{kind-short}
 use Rattle.exact_rewrite.specs.Lines.{FieldWritten, FieldsWritten, LineWritten}
 use Rattle.rewrite_lines.proofs.FieldLaws.{bare-none, count-text, field-text, bytes-text}
-use Rattle.rewrite_lines.proofs.WalkLaws.{fields-short}
 use Rattle.exact_rewrite.proofs.FieldLaws.{count-bare, in-bare, lettered-bare, real-bare, any-bare, limits-bare, code-bare, local-bare}
 
 pub fields-written : (sort : LineSort) (n : ℕ) (f : ℕ → List ℕ) (l : List ℕ) → 1 ≤ n → Fields n f l → Fields n (λ i. fieldText (isNumber sort i) (f i)) (fieldsText sort l)
@@ -190,23 +188,7 @@ pub kind-written : (k : Kind) (l : List ℕ) → Line (KindLine k) (lineText k W
 unfolding lineText
 kind-written k l = kind-line k
 
--- how long a line is as it is written
-pub kept-short : (k : Kind) (l : List ℕ) → length (lineText k Kept l) ≤ length l
-unfolding lineText
-kept-short k l = omega arith
-
-pub numbers-short : (k : Kind) (l : List ℕ) → length (lineText k Numbers l) ≤ length l
-unfolding lineText
-numbers-short k l = fields-short Numbers l
-
-pub analog-short : (k : Kind) (l : List ℕ) → length (lineText k Analog l) ≤ length l
-unfolding lineText
-analog-short k l = fields-short Analog l
-
-pub status-short : (k : Kind) (l : List ℕ) → length (lineText k Status l) ≤ length l
-unfolding lineText
-status-short k l = fields-short Status l
-
+-- how long the kind's line is, and its word
 pub word-short : (k : Kind) (l : List ℕ) → length (lineText k Word l) ≤ 8
 unfolding lineText
 word-short k l = kind-short k

@@ -12,6 +12,7 @@ use native.Mathlib.Omega.{arith}
 use lib.ListN.{length, getD, replicate, length-append}
 use Rattle.ground.specs.Quoted.{quoted}
 use Rattle.ground.specs.Tables.{cat}
+use Rattle.ground.proofs.Cases.{clash}
 use Rattle.model.specs.declared.Kind.{Kind}
 use Rattle.config_rules.specs.declared.Config.{Config}
 use Rattle.config_rules.specs.Shown.{withKind}
@@ -21,10 +22,11 @@ use Rattle.exact_config.proofs.ExactLaws.{quality-some}
 use Rattle.rewrite_lines.specs.declared.LineSort.{LineSort}
 use Rattle.rewrite_lines.specs.declared.LineSort.the-variants.{Kept, Numbers, Analog, Status, Word}
 use Rattle.rewrite_lines.specs.Lines.{lineText}
+use Rattle.rewrite_lines.proofs.LineLaws.{text-line-short}
 use Rattle.rewrite_sorts.specs.Sorts.{lastSorts, sorts}
 use Rattle.rewrite.specs.Rewrite.{linesText, rewritten}
 use Rattle.exact_rewrite.proofs.LineLaws.{kept-written, channels-written, analog-written, status-written, frequency-written, rates-written, rate-written, kind-written, multiplier-written, codes-written}
-use Rattle.exact_rewrite.proofs.LineLaws.{kept-short, numbers-short, analog-short, status-short, word-short, kind-long}
+use Rattle.exact_rewrite.proofs.LineLaws.{word-short, kind-long}
 use Rattle.exact_rewrite.proofs.LinesLaws.{lineAt, next, last, split, group-lines, rate-group, rate-lines, same, short, lines-are}
 
 -- a part, and what follows it
@@ -153,11 +155,11 @@ module _ (s : List ℕ) (c : Config) (w : Configuration s c) where
       let anew = lineText k in
       let old = simp length-append at (ap length (w .whole)) in
       let new = simp length-append at (ap length (text-is anew)) in
+      let kept : (l : List ℕ) → length (anew Kept l) ≤ length l = λ l. text-line-short k Kept l (λ e. clash (cc)) in
+      let bare : (l : List ℕ) → length (anew Numbers l) ≤ length l = λ l. text-line-short k Numbers l (λ e. clash (cc)) in
       let l8 = kind-long (c .layout .kind) (w .l8) (w .kind .is) in
       let k8 = word-short k (w .l8) in
-      let t3 = short anew AnalogLine Analog (analog-short k) 1 A (w .t3) (w .analogs) in
-      let t4 = short anew StatusLine Status (status-short k) 1 D (w .t4) (w .statuses) in
-      let t6 = short anew (λ j l. Unit {0}) Numbers (numbers-short k) 0 R (w .t6) rate-parts in
-      let kept = kept-short k in
-      let bare = numbers-short k in
+      let t3 = short anew AnalogLine Analog (λ l. text-line-short k Analog l (λ e. clash (cc))) 1 A (w .t3) (w .analogs) in
+      let t4 = short anew StatusLine Status (λ l. text-line-short k Status l (λ e. clash (cc))) 1 D (w .t4) (w .statuses) in
+      let t6 = short anew (λ j l. Unit {0}) Numbers bare 0 R (w .t6) rate-parts in
       omega (arith, old, new, l8, k8, t3, t4, t6, kept (w .l1), kept (w .l7), kept (w .m7), kept (w .l11), bare (w .l2), bare (w .l5), bare (w .l6), bare (w .l9), bare (w .l10))

@@ -1,6 +1,5 @@
 -- Laws of a line as it is written: its fields, and that writing it again changes nothing.
 --     bare-none, bare-again, bare-short     a field without its leading spaces has none, so that nothing more goes; it is no longer than it was
---     text-short                            so of a field as it is written
 --     commas-text, count-text, field-text   the written line has as many fields, each the field of the line as it is written
 --     fields-again                          writing it again changes nothing
 --     bytes-text                            its bytes are bytes of a line
@@ -32,10 +31,6 @@ bare-again l = ap (λ (n : ℕ). drop n (bare l)) (bare-none l)
 pub bare-short : (l : List ℕ) → length (bare l) ≤ length l
 bare-short l = rw length-drop (omega arith)
 
-pub text-short : (t : Bool) (f : List ℕ) → length (fieldText t f) ≤ length f
-text-short true f = bare-short f
-text-short false f = omega arith
-
 -- what is left out has no comma, and what stays none where there was none
 drop-commas : (k : ℕ) (l : List ℕ) → commas l ≡ 0 → commas (drop k l) ≡ 0
 drop-commas zero l h = h
@@ -63,7 +58,7 @@ after-every p zero l h = h
 after-every p (suc i) l h = after-every p i (drop (fieldLength l + 1) l) (drop-every p (fieldLength l + 1) l h)
 
 -- a field as it is written
-pub text-plain : (t : Bool) (f : List ℕ) → commas f ≡ 0 → commas (fieldText t f) ≡ 0
+text-plain : (t : Bool) (f : List ℕ) → commas f ≡ 0 → commas (fieldText t f) ≡ 0
 text-plain true f h = drop-commas (leadingSpaces f) f h
 text-plain false f h = h
 

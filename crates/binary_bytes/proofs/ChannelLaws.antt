@@ -17,16 +17,17 @@ use lib.IntN.{ℤ, pos}
 use lib.ListN.{length, getD, drop}
 use lib.Pow.{pow-mono}
 use lib.Seq.{getD-take, getD-drop}
-use lib.Signed.{mag}
 use Rattle.ground.specs.Tables.{part, padded, every}
 use Rattle.ground.proofs.Cases.{on-test, lt-or-ge}
 use Rattle.ground.proofs.Every.{every-cat}
 use Rattle.ground.proofs.Parts.{length-part, length-part-le}
 use Rattle.ground.proofs.Tables.{block-end, length-cat, part-cat, cat-ext, cat-part}
 use Rattle.words.specs.Words.{wordOf, isByte}
-use Rattle.words.specs.Signed.{half, signedOf}
+use Rattle.words.specs.Signed.{half}
 use Rattle.words.proofs.WordLaws.{bytes-part, part-word, wordOf-part-lt, length-wordBytes, bytes-wordBytes, word-back}
-use Rattle.words.proofs.SignedLaws.{sample-back, sample-bytes-back}
+use Rattle.model.specs.Samples.{sampleOfWord}
+use Rattle.model.specs.Inner.{HasWord}
+use Rattle.model.proofs.SampleLaws.{sample-back, sample-bytes-back}
 use Rattle.binary_row.specs.Rows.{wordsOf, bytesSample, wordAt, wordStatus, paddingFree}
 use Rattle.binary_bytes.specs.Rows.{packed, wordEnd, sampleBytes, wordBytesAt, samplesBytes, wordsBytes}
 use Rattle.ground.proofs.Filled.{part-padded, getD-padded}
@@ -41,21 +42,21 @@ pub bytes-samples : (w h a : ℕ) (zs : List ℤ) → every isByte (samplesBytes
 bytes-samples w h a zs = every-cat isByte (sampleBytes w h zs) a (λ i l. bytes-wordBytes w _)
 
 module _ (w : ℕ) (some : 1 ≤ w) where
-  pub sample-bytes-read : (a : ℕ) (zs : List ℤ) (i : ℕ) → i < a → mag (getD zs i (pos 0)) < half w
+  pub sample-bytes-read : (a : ℕ) (zs : List ℤ) (i : ℕ) → i < a → HasWord (half w) (getD zs i (pos 0))
       → bytesSample w (half w) (samplesBytes w (half w) a zs) i ≡ getD zs i (pos 0)
   sample-bytes-read a zs i h f =
-      ap (λ (l : List ℕ). signedOf (half w) (wordOf l)) (part-cat (sampleBytes w (half w) zs) w (λ j. length-wordBytes w _) a i h)
-      ∙ sample-back w (getD zs i (pos 0)) some f
+      ap (λ (l : List ℕ). sampleOfWord (half w) (wordOf l)) (part-cat (sampleBytes w (half w) zs) w (λ j. length-wordBytes w _) a i h)
+      ∙ sample-back w some (getD zs i (pos 0)) f
 
-  pub samples-written : (a n : ℕ) (b : List ℕ) → length b ≡ a * w → every isByte b ≡ true
+  pub samples-written : half w ≤ 2 ^ 31 → (a n : ℕ) (b : List ℕ) → length b ≡ a * w → every isByte b ≡ true
       → samplesBytes w (half w) a (padded (bytesSample w (half w) b) a n (pos 0)) ≡ b
-  samples-written a n b e h =
+  samples-written small a n b e h =
       cat-ext (sampleBytes w (half w) (padded (bytesSample w (half w) b) a n (pos 0))) (λ i. part (i * w) (i * w + w) b) a
       (λ i l.
       let r : i * w + w ≤ length b = rw e (block-end i a w l) in
       let k : length (part (i * w) (i * w + w) b) ≡ w = length-part (i * w) (i * w + w) b r ∙ omega arith in
       rw (getD-padded (bytesSample w (half w) b) a n i (pos 0) (pos 0) l)
-      (sample-bytes-back w (part (i * w) (i * w + w) b) some k (bytes-part (i * w) (i * w + w) b h)))
+      (sample-bytes-back w some small (part (i * w) (i * w + w) b) k (bytes-part (i * w) (i * w + w) b h)))
       ∙ cat-part b w a e
 
 -- statuses

@@ -20,13 +20,14 @@ use Rattle.ground.proofs.Every.{every-append}
 use Rattle.ground.proofs.Parts.{part-front, part-back}
 use Rattle.ground.proofs.Tables.{tab-ext, cat-ext}
 use Rattle.words.specs.Words.{wordOf, wordBytes, isByte}
-use Rattle.words.specs.Signed.{unsignedOf}
 use Rattle.words.proofs.WordLaws.{length-wordBytes, bytes-wordBytes, word-back}
 use Rattle.model.specs.declared.Layout.{Layout}
 use Rattle.model.specs.declared.Row.{Row}
 use Rattle.model.specs.Kinds.{widthOf, halfOf}
 use Rattle.model.specs.Rows.{trimmed, misfit}
-use Rattle.model.proofs.KindLaws.{fits-size, width-pos}
+use Rattle.model.specs.Samples.{wordOfSample}
+use Rattle.model.proofs.KindLaws.{half-le, width-pos}
+use Rattle.model.proofs.SampleLaws.{fits-word}
 use Rattle.binary_row.specs.Rows.{wordsOf, samplesEnd, rowSize, samplesPart, wordsPart, bytesSample, wordStatus, checkRow, rowOf}
 use Rattle.binary_bytes.specs.Rows.{packed, wordEnd, wordBytesAt, samplesBytes, wordsBytes, headBytes, binaryOf}
 use Rattle.ground.proofs.Filled.{getD-padded, part-filled, parts-join}
@@ -100,18 +101,18 @@ module _ (l : Layout) (n : ℕ) (r : Row) where
       ap (wordsPart l) (sym (append-assoc head samples statuses))
       ∙ part-back (samplesEnd l) (rowSize l) (head ++ samples) statuses front (omega (arith, sizes l, long-words))
 
-  pub row-back : misfit (l .kind) (r .samples) (l .analogs) ≡ l .analogs → r .time < 2 ^ 32 → rowOf l (binaryOf l n r) ≡ trimmed l r
+  pub row-back : misfit l (r .samples) ≡ l .analogs → r .time < 2 ^ 32 → rowOf l (binaryOf l n r) ≡ trimmed l r
   unfolding rowOf trimmed
   row-back f t =
       let k = l .kind in
       let read = sample-bytes-read (widthOf k) (width-pos k) (l .analogs) (r .samples) in
-      let fit = misfit-all k (r .samples) (l .analogs) f in
+      let fit = misfit-all l (r .samples) f in
       rw (
         time-part,
         samples-part,
         words-part,
         word-back 4 (r .time) t,
-        tab-ext (bytesSample (widthOf k) (halfOf k) samples) (λ i. getD (r .samples) i (pos 0)) (l .analogs) (λ i h. read i h (fits-size k (getD (r .samples) i (pos 0)) (fit i h))),
+        tab-ext (bytesSample (widthOf k) (halfOf k) samples) (λ i. getD (r .samples) i (pos 0)) (l .analogs) (λ i h. read i h (fits-word l (getD (r .samples) i (pos 0)) (fit i h))),
         tab-ext (wordStatus statuses) (λ i. getD (r .statuses) i false) (l .statuses) (status-read (l .statuses) (r .statuses)),
       )
 
@@ -129,7 +130,7 @@ row-bytes-back l n b long bytes e =
       ← f .0,
       part-word 0 4 4 b refl (omega arith) bytes,
       part-word 4 8 4 b refl (omega arith) bytes,
-      samples-written (widthOf k) (width-pos k) (l .analogs) 96 (samplesPart l b) (samples-length l b long) (bytes-part 8 (samplesEnd l) b bytes),
+      samples-written (widthOf k) (width-pos k) (half-le k) (l .analogs) 96 (samplesPart l b) (samples-length l b long) (bytes-part 8 (samplesEnd l) b bytes),
       words-written (l .statuses) 256 (wordsPart l b) (words-length l b long) (bytes-part (samplesEnd l) (rowSize l) b bytes) (f .1),
       parts-join 0 4 8 b (omega arith) (omega arith),
       parts-join 8 (samplesEnd l) (rowSize l) b (omega arith) (omega arith),
@@ -144,7 +145,7 @@ unread-bytes l r n h =
     let d = l .statuses in
     let g : ℕ → ℤ = λ i. getD (r .samples) i (pos 0) in
     let s : ℕ → Bool = λ i. getD (r .statuses) i false in
-    let code : ℤ → List ℕ = λ z. wordBytes (widthOf (l .kind)) (unsignedOf (halfOf (l .kind)) z) in
+    let code : ℤ → List ℕ = λ z. wordBytes (widthOf (l .kind)) (wordOfSample (halfOf (l .kind)) z) in
     rw (
       cat-ext (λ i. code (getD (padded g a 96 (pos 0)) i (pos 0))) (λ i. code (g i)) a (λ i q. ap code (getD-padded g a 96 i (pos 0) (pos 0) q)),
       cat-ext (wordBytesAt d (padded s d 256 false)) (wordBytesAt d (r .statuses)) (wordsOf d)

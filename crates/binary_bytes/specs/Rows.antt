@@ -7,15 +7,15 @@ use lib.ListN.{getD}
 use Rattle.ground.specs.Choice.{if_then_else_}
 use Rattle.ground.specs.Tables.{part, cat}
 use Rattle.words.specs.Words.{wordBytes}
-use Rattle.words.specs.Signed.{unsignedOf}
 use Rattle.model.specs.declared.Layout.{Layout}
 use Rattle.model.specs.declared.Row.{Row}
 use Rattle.model.specs.Kinds.{widthOf, halfOf}
+use Rattle.model.specs.Samples.{wordOfSample}
 use Rattle.binary_row.specs.Rows.{wordsOf}
 
 -- the bytes of sample i, of w bytes with half h
 abbrev pub sampleBytes : ℕ → ℕ → List ℤ → ℕ → List ℕ
-sampleBytes w h zs i = wordBytes w (unsignedOf h (getD zs i (pos 0)))
+sampleBytes w h zs i = wordBytes w (wordOfSample h (getD zs i (pos 0)))
 
 -- the word of statuses: the first in the lowest bit
 unfoldable pub packed : List Bool → ℕ

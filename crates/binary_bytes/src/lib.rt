@@ -4,7 +4,6 @@ use binary_row::HEAD;
 use binary_row::NUMBER;
 use binary_row::STATUSES;
 use binary_row::WORD;
-use model::Kind;
 use model::Layout;
 use model::Row;
 ghost use mathlib.Core.Path.{_≡_};
@@ -26,11 +25,13 @@ pub fn put_head(n: u32, time: u32, d: &mut [u8])
     words::put_word(&mut d[NUMBER..HEAD], time);
 }
 
-// The first a samples fill the slice.
-fn put_samples(kind: Kind, zs: &[i32], a: usize, d: &mut [u8])
-    requires { ⌜ (a ≤ length (now zs)) × (length (now d) ≡ a * widthOf kind) × (misfit kind (now zs) a ≡ a) ⌝ }
-    ensures { λ _. ⌜ now (d .exit) ≡ samplesBytes (widthOf kind) (halfOf kind) a (now (zs .entry)) ⌝ }
+// The first A samples fill the slice.
+fn put_samples(layout: Layout, zs: &[i32], d: &mut [u8])
+    requires { ⌜ (layout .analogs ≤ length (now zs)) × (length (now d) ≡ layout .analogs * widthOf (layout .kind)) × (misfit layout (now zs) ≡ layout .analogs) ⌝ }
+    ensures { λ _. ⌜ now (d .exit) ≡ samplesBytes (widthOf (layout .kind)) (halfOf (layout .kind)) (layout .analogs) (now (zs .entry)) ⌝ }
 {
+    let kind = layout.kind;
+    let a = layout.analogs as usize;
     let width = kind.width();
     let half = kind.half();
     let mut i = 0;
@@ -38,7 +39,7 @@ fn put_samples(kind: Kind, zs: &[i32], a: usize, d: &mut [u8])
         let from = i * width;
         let to = from + width;
         let z = zs[i];
-        let n = words::unsigned_of(half, z);
+        let n = model::word_of_sample(half, z);
         words::put_word(&mut d[from..to], n);
         i += 1;
     }
@@ -79,30 +80,30 @@ fn put_words(s: &[bool], count: usize, d: &mut [u8])
     }
 }
 
-// The first a samples and the words of the first count statuses fill the slice.
-fn put_body(kind: Kind, zs: &[i32], a: usize, s: &[bool], count: usize, d: &mut [u8])
-    requires { ⌜ (a ≤ length (now zs)) × (misfit kind (now zs) a ≡ a) ⌝ }
-    requires { ⌜ (count ≤ 256) × (count ≤ length (now s)) × (length (now d) ≡ a * widthOf kind + 2 * wordsOf count) ⌝ }
-    ensures { λ _. ⌜ now (d .exit) ≡ samplesBytes (widthOf kind) (halfOf kind) a (now (zs .entry)) ++ wordsBytes count (now (s .entry)) ⌝ }
+// The first A samples and the words of the first D statuses fill the slice.
+fn put_body(layout: Layout, zs: &[i32], s: &[bool], d: &mut [u8])
+    requires { ⌜ (layout .analogs ≤ length (now zs)) × (misfit layout (now zs) ≡ layout .analogs) ⌝ }
+    requires { ⌜ (layout .statuses ≤ 256) × (layout .statuses ≤ length (now s)) × (length (now d) ≡ layout .analogs * widthOf (layout .kind) + 2 * wordsOf (layout .statuses)) ⌝ }
+    ensures { λ _. ⌜ now (d .exit) ≡ samplesBytes (widthOf (layout .kind)) (halfOf (layout .kind)) (layout .analogs) (now (zs .entry)) ++ wordsBytes (layout .statuses) (now (s .entry)) ⌝ }
 {
+    let kind = layout.kind;
+    let a = layout.analogs as usize;
+    let count = layout.statuses as usize;
     let mid = a * kind.width();
     let end = d.len();
-    put_samples(kind, zs, a, &mut d[..mid]);
+    put_samples(layout, zs, &mut d[..mid]);
     put_words(s, count, &mut d[mid..end]);
 }
 
 // The bytes of row n fill the slice.
 pub fn put_row(layout: Layout, n: u32, row: Row, d: &mut [u8])
-    requires { ⌜ (Sized layout) × (length (now d) ≡ rowSize layout) × (misfit (layout .kind) (row .samples) (layout .analogs) ≡ layout .analogs) ⌝ }
+    requires { ⌜ (Sized layout) × (length (now d) ≡ rowSize layout) × (misfit layout (row .samples) ≡ layout .analogs) ⌝ }
     ensures { λ _. ⌜ now (d .exit) ≡ binaryOf layout n row ⌝ }
 {
-    let kind = layout.kind;
-    let a = layout.analogs as usize;
-    let count = layout.statuses as usize;
     let end = d.len();
     let time = row.time;
     let zs = row.samples;
     let s = row.statuses;
     put_head(n, time, &mut d[..HEAD]);
-    put_body(kind, &zs, a, &s, count, &mut d[HEAD..end]);
+    put_body(layout, &zs, &s, &mut d[HEAD..end]);
 }

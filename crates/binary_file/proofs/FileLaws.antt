@@ -47,7 +47,7 @@ module _ (l : Layout) (r : ℕ → Row) where
   unfolding checkBinary
   binary-accepted s = rw (eq-eqb (length (binaryFile l r)) (l .rows * rowSize l) length-binary) (rows-fine s 0 (l .rows) (omega arith))
 
-  pub binary-reads-back : (i : ℕ) → i < l .rows → misfit (l .kind) (r i .samples) (l .analogs) ≡ l .analogs → r i .time < 2 ^ 32
+  pub binary-reads-back : (i : ℕ) → i < l .rows → misfit l (r i .samples) ≡ l .analogs → r i .time < 2 ^ 32
       → binaryRow l i (binaryFile l r) ≡ trimmed l (r i)
   unfolding binaryRow
   binary-reads-back i h f t = rw (file-row i h, row-back l (i + 1) (r i) f t)

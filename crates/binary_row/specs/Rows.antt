@@ -8,12 +8,12 @@ use Rattle.ground.specs.Choice.{if_then_else_}
 use Rattle.ground.specs.Said.{Said, _>>_, must}
 use Rattle.ground.specs.Tables.{part, padded}
 use Rattle.words.specs.Words.{wordOf}
-use Rattle.words.specs.Signed.{signedOf}
 use Rattle.model.specs.declared.Layout.{Layout}
 use Rattle.model.specs.declared.Row.{Row}
 use Rattle.model.specs.declared.Refusal.{Refusal}
 use Rattle.model.specs.Kinds.{widthOf, halfOf}
 use Rattle.model.specs.Refusals.{refused}
+use Rattle.model.specs.Samples.{sampleOfWord}
 
 -- how many words hold d statuses: d / 16 rounded up
 abbrev pub wordsOf : ℕ → ℕ
@@ -43,9 +43,9 @@ samplesPart l b = part 8 (samplesEnd l) b
 abbrev pub wordsPart : Layout → List ℕ → List ℕ
 wordsPart l b = part (samplesEnd l) (rowSize l) b
 
--- sample i of samples of w bytes, in two's complement with half h
+-- sample i of samples of w bytes with half h
 abbrev pub bytesSample : ℕ → ℕ → List ℕ → ℕ → ℤ
-bytesSample w h b i = signedOf h (wordOf (part (i * w) (i * w + w) b))
+bytesSample w h b i = sampleOfWord h (wordOf (part (i * w) (i * w + w) b))
 
 -- status word j of status words
 abbrev pub wordAt : List ℕ → ℕ → ℕ

@@ -101,7 +101,7 @@ fn samples_of(kind: Kind, a: usize, b: &[u8]) -> [i32; 96]
         let from = i * width;
         let to = from + width;
         let n = words::word_of(&b[from..to]);
-        out[i] = words::signed_of(half, n);
+        out[i] = model::sample_of_word(half, n);
         i += 1;
     }
     out

@@ -2,23 +2,31 @@
 // Each function gives exactly what the definition of its name says; loops have no branch, so that many samples are done at once.
 use model::Kind;
 ghost use mathlib.Core.Path.{_≡_};
+ghost use mathlib.Core.Bool.{true};
 ghost use Prim.Native.Nat.{_*_, _≤_, _<_};
 ghost use lib.ListN.{length};
 ghost use Rattle.words.specs.Words.{wordOf, wordBytes};
 ghost use Rattle.words.specs.Signed.{signedOf, unsignedOf};
 ghost use Rattle.model.specs.declared.Kind.the-variants.{Binary, Binary32};
 ghost use Rattle.model.specs.Kinds.{widthOf, halfOf};
-ghost use Rattle.recode_samples.specs.Inner.{recoded, recodedAll, strayOf, straysOf, firstStray, NoStray};
+ghost use Rattle.model.specs.Samples.{sampleOfWord, wordOfSample};
+ghost use Rattle.recode_samples.specs.Inner.{isShort, recoded, recodedAll, strayOf, straysOf, firstStray, NoStray};
 
 // Bytes of a sample of 16 bits, and of 32.
 const NARROW: usize = Kind::WIDTH_BINARY;
 
 const WIDE: usize = Kind::WIDTH_BINARY32;
 
-// The first number of 32 bits that is too large for 16, and the first after it that is not.
+// The first number of 32 bits that does not fit in 16, and the last: between them the kept one alone does.
 const FIRST_STRAY: u32 = Kind::HALF_BINARY;
 
-const LARGE_AGAIN: u32 = Kind::HALF_BINARY32 - Kind::HALF_BINARY + Kind::HALF_BINARY32;
+const LAST_STRAY: u32 = Kind::HALF_BINARY32 - Kind::HALF_BINARY + Kind::HALF_BINARY32;
+
+// How far the kept number of 16 bits, extended, is above the kept one of 32.
+const KEPT_APART: u32 = Kind::HALF_BINARY32 - Kind::HALF_BINARY;
+
+// What lifts every number of 16 bits that is extended to zero or above, but for the kept one.
+const LIFT: u64 = Kind::HALF_BINARY as u64 - 1;
 
 // The number of two bytes, written out so that it becomes one load.
 pub fn two(b: &[u8]) -> u32
@@ -62,7 +70,17 @@ fn extended(n: u32) -> u32
     ensures { λ r. ⌜ r ≡ unsignedOf (halfOf Binary32) (signedOf (halfOf Binary) n) ⌝ }
 {
     let up = (n + FIRST_STRAY) % 65536;
-    ((up as u64 + LARGE_AGAIN as u64) % 4294967296) as u32
+    ((up as u64 + LAST_STRAY as u64) % 4294967296) as u32
+}
+
+// The number of 32 bits that says what a number of 16 does: the kept one alone stays below zero when it is lifted. No branch, likewise; a choice by n would cost the one load of `two`.
+fn long_of(n: u32) -> u32
+    requires { ⌜ n < 65536 ⌝ }
+    ensures { λ r. ⌜ r ≡ wordOfSample (halfOf Binary32) (sampleOfWord (halfOf Binary) n) ⌝ }
+{
+    let wide = extended(n);
+    let up = ((wide as u64 + LIFT) % 4294967296) as u32;
+    wide - up / Kind::HALF_BINARY32 * KEPT_APART
 }
 
 // A sample of 16 bits, in 32, fills the slice.
@@ -70,7 +88,7 @@ fn widen(b: &[u8], d: &mut [u8])
     requires { ⌜ (length (now b) ≡ widthOf Binary) × (length (now d) ≡ widthOf Binary32) ⌝ }
     ensures { λ _. ⌜ now (d .exit) ≡ recoded Binary Binary32 (now (b .entry)) ⌝ }
 {
-    put_four(extended(two(b)), d);
+    put_four(long_of(two(b)), d);
 }
 
 // a samples of 16 bits, in 32, fill the slice.
@@ -89,12 +107,20 @@ fn widen_all(a: usize, b: &[u8], d: &mut [u8])
     }
 }
 
+// The number of 16 bits that says what a number of 32 does, where there is one: its sign and its low bits.
+fn short_of(n: u32) -> u32
+    requires { ⌜ isShort n ≡ true ⌝ }
+    ensures { λ r. ⌜ r ≡ wordOfSample (halfOf Binary) (sampleOfWord (halfOf Binary32) n) ⌝ }
+{
+    n % Kind::HALF_BINARY + n / Kind::HALF_BINARY32 * Kind::HALF_BINARY
+}
+
 // A sample of 32 bits that fits in 16 fills the slice.
 fn narrow(b: &[u8], d: &mut [u8])
     requires { ⌜ (length (now b) ≡ widthOf Binary32) × (length (now d) ≡ widthOf Binary) × (strayOf (now b) ≡ 0) ⌝ }
     ensures { λ _. ⌜ now (d .exit) ≡ recoded Binary32 Binary (now (b .entry)) ⌝ }
 {
-    put_two(four(b), d);
+    put_two(short_of(four(b)), d);
 }
 
 // a samples of 32 bits that fit in 16 fill the slice.
@@ -131,9 +157,11 @@ fn stray(b: &[u8]) -> u32
     ensures { λ r. ⌜ r ≡ strayOf (now (b .entry)) ⌝ }
 {
     let n = four(b);
-    if n < FIRST_STRAY {
+    if n == Kind::HALF_BINARY32 {
         0
-    } else if n < LARGE_AGAIN {
+    } else if n < FIRST_STRAY {
+        0
+    } else if n <= LAST_STRAY {
         1
     } else {
         0

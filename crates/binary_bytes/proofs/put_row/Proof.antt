@@ -11,12 +11,6 @@ use Rattle.binary_row.proofs.SizeLaws.{sizes}
 use Rattle.binary_bytes.proofs.put_row.Statement.{statement}
 use Rattle.binary_bytes.proofs.put_row.Tie as tie
 
-cast-a : tie.Need-cast-a
-cast-a c = search needs
-
-cast-count : tie.Need-cast-count
-cast-count c = search needs
-
 -- the row's arrays have their lengths, and the head its place
 wide : (c : tie.Start) → length (c .args .row .samples) ≡ 96
 wide c = search needs
@@ -28,13 +22,13 @@ head : (c : tie.Start) → length (take 8 (c .args .d .now)) ≡ 8
 head c = length-take-le 8 (c .args .d .now) (omega (arith, sizes (c .args .layout)))
 
 slice-relend-prefix-put-head : tie.Need-slice-relend-prefix-put-head
-slice-relend-prefix-put-head c = omega (arith, sizes (c .before .before .before .before .before .args .layout))
+slice-relend-prefix-put-head c = omega (arith, sizes (c .before .before .before .args .layout))
 
 slice-aggregate-put-head : tie.Need-slice-aggregate-put-head
-slice-aggregate-put-head c = sym (head (c .before .before .before .before .before .before))
+slice-aggregate-put-head c = sym (head (c .before .before .before .before))
 
 put-head-requires : tie.Need-put-head-requires
-put-head-requires c κs = head (c .before .before .before .before .before .before)
+put-head-requires c κs = head (c .before .before .before .before)
 
 slice-aggregate-put-body : tie.Need-slice-aggregate-put-body
 slice-aggregate-put-body c = search needs
@@ -43,7 +37,7 @@ slice-aggregate-put-body-2 : tie.Need-slice-aggregate-put-body-2
 slice-aggregate-put-body-2 c = search needs
 
 sub-put-body : tie.Need-sub-put-body
-sub-put-body c = omega (arith, sizes (c .before .before .before .before .before .before .before .before .before .before .before .args .layout))
+sub-put-body c = omega (arith, sizes (c .before .before .before .before .before .before .before .before .before .args .layout))
 
 part-put-body-start : tie.Need-part-put-body-start
 part-put-body-start c = sub-put-body c
@@ -53,14 +47,14 @@ part-put-body-end c = search needs
 
 put-body-requires : tie.Need-put-body-requires
 put-body-requires c κs =
-    let s = c .before .before .before .before .before .before .before .before .before .before .before .before in
+    let s = c .before .before .before .before .before .before .before .before .before .before in
     let f = c .before .before .before .before .before .put-head in
     let e = sizes (s .args .layout) in
     let k = f .kept .1 .1 .0 ∙ head s in
     let w = wide s in
     let v = long s in (
-      (omega arith, s .pre .2),
-      (omega arith, omega arith, half-length (s .args .d .now) (f .last .1 .1 .0) 8 (length (s .args .d .now)) k (omega arith) (omega arith) ∙ omega arith),
+      (omega (arith, s .pre .0 .analogs), s .pre .2),
+      (s .pre .0 .statuses, omega (arith, s .pre .0 .statuses), half-length (s .args .d .now) (f .last .1 .1 .0) 8 (length (s .args .d .now)) k (omega arith) (omega arith) ∙ omega arith),
     )
 
 same-length : tie.Need-same-length
@@ -69,23 +63,21 @@ same-length c = search needs
 returns : tie.Need-returns
 unfolding binaryOf
 returns c =
-    let s = c .before .before .before .before .before .before .before .before .before .before .before .before .before .before .before in
+    let s = c .before .before .before .before .before .before .before .before .before .before .before .before .before in
     let f = c .before .before .before .before .before .before .before .before .put-head in
     let g = c .before .before .put-body in
     let d = s .args .d .now in
     let e = sizes (s .args .layout) in
     let p = f .last .1 .1 .0 in
-    let q = g .last .1 .1 .1 .1 .1 .0 in
+    let q = g .last .1 .1 .1 .0 in
     let lp : length p ≡ 8 = f .kept .1 .1 .0 ∙ head s in
-    let lq : length q ≡ length d - 8 = g .kept .1 .1 .1 .1 .1 .0 ∙ half-length d p 8 (length d) lp (omega arith) (omega arith) in
+    let lq : length q ≡ length d - 8 = g .kept .1 .1 .1 .0 ∙ half-length d p 8 (length d) lp (omega arith) (omega arith) in
     halves d p q 8 (length d) lp (omega arith) refl ∙ rw (f .ensures, g .ensures)
 
 pub put-row-spec : {M : Type 1} → statement M
 put-row-spec =
     tie.close
     (tie.spec
-    cast-a
-    cast-count
     slice-relend-prefix-put-head
     slice-aggregate-put-head
     put-head-requires

@@ -1,5 +1,5 @@
 -- `binary_bytes::put_samples` meets its contract. The loop's invariant: the slice begins with the bytes of i samples, and the rest is as it was.
--- The measure is what is left of a.
+-- The measure is what is left of A.
 use mathlib.Core.Path.{_≡_, refl, ap, _∙_}
 use mathlib.Core.List.{_++_, append-nil}
 use Prim.Native.Nat.{_≤_, _*_, _-_, _+_}
@@ -15,19 +15,23 @@ use mir.ValLaws.{toZ-ofZ}
 use Rattle.ground.specs.Tables.{cat}
 use Rattle.ground.proofs.Tables.{block-end, cat-turn}
 use Rattle.words.specs.Words.{wordBytes}
-use Rattle.words.specs.Signed.{unsignedOf}
+use Rattle.model.specs.Samples.{wordOfSample}
 use Rattle.words.proofs.WordLaws.{length-wordBytes, put-part}
-use Rattle.model.proofs.KindLaws.{fits-size, half-le}
+use Rattle.model.proofs.KindLaws.{half-le}
+use Rattle.model.proofs.SampleLaws.{fits-word}
 use Rattle.binary_bytes.specs.Rows.{sampleBytes}
 use Rattle.model.proofs.FitLaws.{misfit-all}
 use Rattle.binary_bytes.proofs.put_samples.Statement.{statement}
 use Rattle.binary_bytes.proofs.put_samples.Tie as tie
 
 abbrev Inv-loop : tie.InvT-loop
-Inv-loop zs a d₀ width half i₀ d i = (i ≤ a) × (length d ≡ length d₀) × (d ≡ cat (sampleBytes width half zs) i ++ drop (i * width) d₀)
+Inv-loop zs d₀ a width half i₀ d i = (i ≤ a) × (length d ≡ length d₀) × (d ≡ cat (sampleBytes width half zs) i ++ drop (i * width) d₀)
 
 abbrev μ-loop : tie.MeasureT-loop
-μ-loop zs a d₀ width half i₀ d i = a - i
+μ-loop zs d₀ a width half i₀ d i = a - i
+
+cast-a : tie.Need-cast-a Inv-loop μ-loop
+cast-a c = search needs
 
 width-requires : tie.Need-width-requires Inv-loop μ-loop
 width-requires c κs = search needs
@@ -41,8 +45,8 @@ loop-holds c = (search needs, refl, rw zero-mul)
 -- the bytes of sample i lie within the slice
 room : (c : tie.In-loop Inv-loop μ-loop) → let w = c .before .before .before .width .result in c .before .loop .i * w + w ≤ length (c .before .loop .d)
 room c =
-    let s = c .before .before .before .before .before in
-    rw (c .before .loop .inv .1, s .pre .1, ← c .before .before .before .width .ensures) (block-end (c .before .loop .i) (s .args .a) (c .before .before .before .width .result) (c .loop-test .taken))
+    let s = c .before .before .before .before .before .before in
+    rw (c .before .loop .inv .1, s .pre .1, ← c .before .before .before .width .ensures) (block-end (c .before .loop .i) (s .args .layout .analogs) (c .before .before .before .width .result) (c .loop-test .taken))
 
 mul-from : tie.Need-mul-from Inv-loop μ-loop
 mul-from c = omega (arith, room c)
@@ -57,17 +61,17 @@ shared-slice-copy-out-z : tie.Need-shared-slice-copy-out-z Inv-loop μ-loop
 shared-slice-copy-out-z c = search needs
 
 -- sample i, as the machine keeps it
-back : (c : tie.After-z Inv-loop μ-loop) → let z = getD (c .before .before .before .before .before .before .args .zs .now) (c .before .before .loop .i) (pos 0) in toZ w32 (ofZ w32 z) ≡ z
-back c = toZ-ofZ w32 (getD (c .before .before .before .before .before .before .args .zs .now) (c .before .before .loop .i) (pos 0)) (record { sfits = c .z .given })
+back : (c : tie.After-z Inv-loop μ-loop) → let z = getD (c .before .before .before .before .before .before .before .args .zs .now) (c .before .before .loop .i) (pos 0) in toZ w32 (ofZ w32 z) ≡ z
+back c = toZ-ofZ w32 (getD (c .before .before .before .before .before .before .before .args .zs .now) (c .before .before .loop .i) (pos 0)) (record { sfits = c .z .given })
 
-unsigned-of-requires : tie.Need-unsigned-of-requires Inv-loop μ-loop
-unsigned-of-requires c κs =
-    let s = c .before .before .before .before .before .before in
-    let k = s .args .kind in
+word-of-sample-requires : tie.Need-word-of-sample-requires Inv-loop μ-loop
+word-of-sample-requires c κs =
+    let s = c .before .before .before .before .before .before .before in
+    let l = s .args .layout in
     let zs = s .args .zs .now in
     let i = c .before .before .loop .i in
-    let fit = misfit-all k zs (s .args .a) (s .pre .2) i (c .before .loop-test .taken) in
-    rw (back c, c .before .before .before .half .ensures) (half-le k, fits-size k (getD zs i (pos 0)) fit)
+    let fit = misfit-all l zs (s .pre .2) i (c .before .loop-test .taken) in
+    rw (back c, c .before .before .before .half .ensures) (half-le (l .kind), fits-word l (getD zs i (pos 0)) fit)
 
 sub-put-word : tie.Need-sub-put-word Inv-loop μ-loop
 sub-put-word c = search needs
@@ -89,14 +93,14 @@ loop-less c = search needs
 
 loop-again : tie.Need-loop-again Inv-loop μ-loop
 loop-again c =
-    let s = c .before .before .before .before .before .before .before .before .before .before .before .args in
+    let s = c .before .before .before .before .before .before .before .before .before .before .before .before .args in
     let p = c .before .before .before .before .before .before .before .loop in
     let w = c .before .before .before .before .before .before .before .before .before .width .result in
     let h = c .before .before .before .before .before .before .before .before .half .result in
-    let u = c .before .before .before .before .unsigned-of in
+    let u = c .before .before .before .before .word-of-sample in
     let put = c .before .before .put-word in
     let r = room (c .before .before .before .before .before .before) in
-    let n = u .ensures ∙ ap (unsignedOf h) (back (c .before .before .before .before .before)) in
+    let n = u .ensures ∙ ap (wordOfSample h) (back (c .before .before .before .before .before)) in
     let y = put-part (p .d) (p .i * w) w (u .result) (put .last .0) r (put .ensures) ∙ ap (wordBytes w) n in
     let t =
     cat-turn (sampleBytes w h (s .zs .now)) w (λ i. length-wordBytes w _) (s .d .now) (p .d) (put .last .0) (p .i) (p .inv .1) (p .inv .2) r y in
@@ -107,9 +111,9 @@ same-length c = search needs
 
 returns : tie.Need-returns Inv-loop μ-loop
 returns c =
-    let s = c .before .before .before .before .before in
-    let e : c .before .loop .i ≡ s .args .a = omega arith in
-    let l : length (s .args .d .now) ≡ s .args .a * c .before .before .before .width .result = s .pre .1 ∙ rw (c .before .before .before .width .ensures) in
+    let s = c .before .before .before .before .before .before in
+    let e : c .before .loop .i ≡ s .args .layout .analogs = omega arith in
+    let l : length (s .args .d .now) ≡ s .args .layout .analogs * c .before .before .before .width .result = s .pre .1 ∙ rw (c .before .before .before .width .ensures) in
     c .before .loop .inv .2 ∙ rw (e, ← l, drop-length, append-nil, c .before .before .half .ensures, c .before .before .before .width .ensures)
 
 pub put-samples-spec : {M : Type 1} → statement M
@@ -118,6 +122,7 @@ put-samples-spec =
     (tie.spec
     Inv-loop
     μ-loop
+    cast-a
     width-requires
     half-requires
     loop-holds
@@ -125,7 +130,7 @@ put-samples-spec =
     add-to
     mul-z
     shared-slice-copy-out-z
-    unsigned-of-requires
+    word-of-sample-requires
     sub-put-word
     part-put-word-start
     part-put-word-end

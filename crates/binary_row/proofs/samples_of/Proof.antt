@@ -61,8 +61,8 @@ word-of-requires c κs =
     let four : w ≤ 4 = rw (c .before .before .before .before .width .ensures) (width-le (c .before .before .before .before .before .before .args .kind)) in
     le-trans (length-part-le f (f + w) (c .before .before .before .before .before .before .args .b .now)) (omega arith)
 
-signed-of-requires : tie.Need-signed-of-requires Inv-loop μ-loop
-signed-of-requires c κs =
+sample-of-word-requires : tie.Need-sample-of-word-requires Inv-loop μ-loop
+sample-of-word-requires c κs =
     let k = c .before .before .before .before .before .before .before .args .kind in
     let b = c .before .before .before .before .before .before .before .args .b .now in
     let w = c .before .before .before .before .before .width .result in
@@ -88,7 +88,7 @@ loop-again : tie.Need-loop-again Inv-loop μ-loop
 loop-again c =
     let turn = c .before .before .before .before in
     let half = turn .before in
-    let z = c .signed-of in
+    let z = c .sample-of-word in
     let f = bytesSample (half .before .width .result) (half .half .result) (half .before .before .before .args .b .now) in
     let kept = toZ-ofZ w32 (z .result) (record { sfits = z .ok }) in
     (omega arith, rw (kept, z .ensures, c .before .word-of .ensures, turn .loop .inv .1) (padded-set f (turn .loop .i) 96 (pos 0) (omega arith)))
@@ -113,7 +113,7 @@ samples-of-spec =
     part-word-of-start
     part-word-of-end
     word-of-requires
-    signed-of-requires
+    sample-of-word-requires
     mul-out
     array-set-from-out
     add-i

@@ -10,8 +10,8 @@ use Rattle.recode_samples.proofs.widen.Tie as tie
 two-requires : tie.Need-two-requires
 two-requires c κs = search needs
 
-extended-requires : tie.Need-extended-requires
-extended-requires c κs =
+long-of-requires : tie.Need-long-of-requires
+long-of-requires c κs =
     let s = c .before .before .before in
     let f = c .before .before .shared-slice-known .given in
     let e = word-two (s .args .b .now) (s .pre .0) in
@@ -26,9 +26,9 @@ same-length c = search needs
 returns : tie.Need-returns
 unfolding recoded
 returns c =
-    let e = c .before .before .before .before .extended .ensures in
+    let e = c .before .before .before .before .long-of .ensures in
     c .before .before .put-four .ensures ∙ rw (e, c .before .before .before .before .before .two .ensures)
 
 pub widen-spec : {M : Type 1} → statement M
 widen-spec =
-    tie.close (tie.spec two-requires extended-requires put-four-requires same-length returns)
+    tie.close (tie.spec two-requires long-of-requires put-four-requires same-length returns)

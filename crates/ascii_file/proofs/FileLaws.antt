@@ -75,7 +75,7 @@ row-fits l i s =
     let line = firstLine (afterRows i s) in
     record {
       time = time-below (fieldAt 2 line);
-      samples = λ j h. rw (sample-there l line j h) (sample-fits (fieldAt (3 + j) line));
+      samples = λ j h. rw (sample-there l line j h) (sample-fits l (fieldAt (3 + j) line));
     }
 
 pub text-trimmed : (l : Layout) (i : ℕ) (s : List ℕ) → trimmed l (textRow l i s) ≡ textRow l i s

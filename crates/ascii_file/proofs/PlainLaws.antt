@@ -4,31 +4,42 @@
 -- Assumes nothing.
 use mathlib.Core.Path.{_≡_, _∙_}
 use mathlib.Core.Bool.{true, false}
-use mathlib.Core.Logic.{⊎-elim}
+use mathlib.Core.Logic.{inl, inr, ⊎-elim}
 use mathlib.Core.List.{List, [], _∷_}
 use Prim.Native.Nat.{ℕ, zero, suc, _+_, _-_, _<_, _≤_}
 use native.Mathlib.Omega.{arith}
 use borrow.Author.Tests.{eqb-true}
 use lib.Dec.{eqb}
+use lib.IntN.{ℤ}
 use Rattle.ground.proofs.Cases.{on-test, lt-or-ge}
 use Rattle.text.specs.Fields.{fieldAt}
 use Rattle.text.proofs.FieldLaws.{joined-ext, fields-joined}
-use Rattle.numerals.specs.Decimals.{decimal, plain, isPlainCount, isPlain}
+use Rattle.numerals.specs.Decimals.{decimal, isPlainCount}
 use Rattle.numerals.proofs.PlainLaws.{decimal-count}
 use Rattle.numerals.proofs.WholeLaws.{plain-whole}
 use Rattle.model.specs.declared.Layout.{Layout}
+use Rattle.model.specs.Samples.{missing}
+use Rattle.model.proofs.SampleLaws.{missing-is, holds-there}
 use Rattle.ascii_row.specs.Fields.{readTimestamp, readSample, isStatus, isCount, isWhole, timeIn, sampleIn, statusIn}
 use Rattle.ascii_row.specs.Rows.{rowOf}
-use Rattle.ascii_row.proofs.FieldLaws.{time-read, sample-read}
+use Rattle.ascii_row.proofs.FieldLaws.{SampleTold, whole-some, time-read, sample-read}
 use Rattle.ascii_row.proofs.LineLaws.{FineLine, sample-there, status-there}
-use Rattle.ascii_plain.specs.Rows.{statusChar, lineOf}
+use Rattle.ascii_plain.specs.Rows.{sampleChars, statusChar, lineOf}
+use Rattle.ascii_plain.specs.Inner.{isPlainSample}
+use Rattle.ascii_plain.proofs.LengthLaws.{chars-missing, chars-there}
 use Rattle.ascii_plain.proofs.LineLaws.{fieldText, field-sample, field-status, as-joined}
 
 pub time-again : (f : List ℕ) → isPlainCount f ≡ true → isCount (readTimestamp f) ≡ true → decimal (timeIn f) ≡ f
 time-again f p h = decimal-count 1 13 f (timeIn f) p (time-read f h)
 
-pub sample-again : (f : List ℕ) → isPlain f ≡ true → isWhole (readSample f) ≡ true → plain (sampleIn f) ≡ f
-sample-again f p h = plain-whole f (sampleIn f) p (sample-read f h)
+-- a number that was read is a sample, and not empty
+told-again : (l : Layout) (f : List ℕ) (z : ℤ) → isPlainSample l f ≡ true → SampleTold l f z → sampleChars l z ≡ f
+unfolding isPlainSample
+told-again l f z p (inl (e, n)) = rw (e, n) (chars-missing l missing missing-is)
+told-again l f z p (inr (e, h)) = chars-there l z (holds-there l z h) ∙ plain-whole f z (rw (whole-some f z e) at p) e
+
+pub sample-again : (l : Layout) (f : List ℕ) → isPlainSample l f ≡ true → isWhole (readSample l f) ≡ true → sampleChars l (sampleIn l f) ≡ f
+sample-again l f p h = told-again l f (sampleIn l f) p (sample-read l f h)
 
 pub status-again : (f : List ℕ) → isStatus f ≡ true → statusChar (statusIn f) ∷ [] ≡ f
 unfolding isStatus statusIn
@@ -41,7 +52,7 @@ status-again (b ∷ c ∷ f) h = cc
 
 -- a line that is fine, and its numbers plain
 module _ (l : Layout) (n : ℕ) (line : List ℕ) (f : FineLine l n line) (number : isPlainCount (fieldAt 1 line) ≡ true)
-    (time : isPlainCount (fieldAt 2 line) ≡ true) (samples : (i : ℕ) → i < l .analogs → isPlain (fieldAt (3 + i) line) ≡ true) where
+    (time : isPlainCount (fieldAt 2 line) ≡ true) (samples : (i : ℕ) → i < l .analogs → isPlainSample l (fieldAt (3 + i) line) ≡ true) where
   field-again : (j : ℕ) → j ≤ 1 + l .analogs + l .statuses → fieldText l n (rowOf l line) j ≡ fieldAt (j + 1) line
   unfolding rowOf
   field-again zero h = decimal-count 1 10 (fieldAt 1 line) n number (f .number)
@@ -51,7 +62,7 @@ module _ (l : Layout) (n : ℕ) (line : List ℕ) (f : FineLine l n line) (numbe
       (λ (k : i < l .analogs).
       let e : suc (suc i) + 1 ≡ 3 + i = omega arith in
       rw (e, field-sample l n (rowOf l line) i k, sample-there l line i k)
-      (sample-again (fieldAt (3 + i) line) (samples i k) (f .samples i k)))
+      (sample-again l (fieldAt (3 + i) line) (samples i k) (f .samples i k)))
       (λ (k : l .analogs ≤ i).
       let d = i - l .analogs in
       let q : i ≡ l .analogs + d = omega arith in

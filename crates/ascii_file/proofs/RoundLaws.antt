@@ -1,12 +1,13 @@
 -- Laws of a plain row and its line: what is written is found, is fine and reads back.
 --     Fits                                      what a row must keep to be written: its timestamp and its samples
---     time-back, sample-plain-back, status-back     what is written in a field reads back
+--     time-back, sample-back, status-back       what is written in a field reads back
 --     line-fine, line-back                      the line of a row is fine, and says the row with its places past A and D zero
 --     row-scanned, row-checked                  a row that a text begins with is found, and is fine
 --     row-line, row-rest                        its line, and what follows it
 -- Assumes nothing.
 use mathlib.Core.Path.{_≡_, refl}
 use mathlib.Core.Bool.{Bool, true, false}
+use mathlib.Core.Logic.{inl, inr}
 use mathlib.Core.List.{List, [], _∷_, _++_, append-assoc}
 use Prim.Native.Nat.{ℕ, _+_, _^_, _<_}
 use native.Mathlib.Omega.{arith}
@@ -15,42 +16,47 @@ use lib.IntN.{ℤ, pos}
 use lib.ListN.{length, getD, take, drop}
 use lib.Seq.{take-append-seam, drop-append-add}
 use Rattle.ground.specs.Said.{says}
+use Rattle.ground.proofs.Cases.{on-test}
 use Rattle.ground.proofs.Tables.{tab-ext}
 use Rattle.text.specs.declared.Scanned.the-variants.{Line}
 use Rattle.text.specs.Fields.{afterFields}
 use Rattle.text.proofs.LineLaws.{line-scanned}
 use Rattle.numerals.specs.declared.Count.the-variants as count
 use Rattle.numerals.specs.declared.Whole.the-variants as whole
-use Rattle.numerals.specs.Decimals.{decimal, plain}
+use Rattle.numerals.specs.Decimals.{decimal}
 use Rattle.numerals.proofs.PlainLaws.{length-decimal, count-decimal}
 use Rattle.numerals.proofs.WholeLaws.{whole-plain}
-use Rattle.model.specs.declared.Kind.the-variants.{Ascii}
 use Rattle.model.specs.declared.Layout.{Layout}
 use Rattle.model.specs.declared.Row.{Row}
-use Rattle.model.specs.Kinds.{fitsKind}
 use Rattle.model.specs.Layouts.{Sized}
+use Rattle.model.specs.Samples.{isMissing, fits}
 use Rattle.model.specs.Rows.{latestTime, trimmed}
+use Rattle.model.proofs.SampleLaws.{is-missing, fits-there, fits-small}
 use Rattle.ascii_row.specs.Fields.{readTimestamp, readSample, isStatus, timeIn, sampleIn, statusIn}
 use Rattle.ascii_row.specs.Rows.{checkLine, fieldSample, fieldStatus, rowOf}
+use Rattle.ascii_row.proofs.FieldLaws.{told-sample}
 use Rattle.ascii_row.proofs.LineLaws.{line-is, sample-at, status-at}
-use Rattle.ascii_plain.specs.Rows.{statusChar, lineOf, textOf}
+use Rattle.ascii_plain.specs.Rows.{sampleChars, statusChar, lineOf, textOf}
 use Rattle.ascii_plain.specs.Inner.{textLength}
-use Rattle.ascii_plain.proofs.LengthLaws.{decimal-short, sample-short, text-line, line-most}
+use Rattle.ascii_plain.proofs.LengthLaws.{decimal-short, plain-short, chars-missing, chars-there, text-line, line-most}
 use Rattle.ascii_plain.proofs.LineLaws.{line-bytes-plain, fields-line, number-field, time-field, sample-field, status-field}
 use Rattle.ascii_file.specs.Files.{scanRow, takeRow, lineTaken, firstLine}
 
--- a row that can be written: its timestamp and its samples have 32 bits
+-- a row that can be written: its timestamp has 32 bits, and each of its A places is missing or a sample of the layout
 pub record Fits (l : Layout) (r : Row) : Type 0 where
   pub time : r .time < 2 ^ 32
-  pub samples : (i : ℕ) → i < l .analogs → fitsKind Ascii (getD (r .samples) i (pos 0)) ≡ true
+  pub samples : (i : ℕ) → i < l .analogs → fits l (getD (r .samples) i (pos 0)) ≡ true
 
 pub time-back : (v : ℕ) → v < 2 ^ 32 → readTimestamp (decimal v) ≡ count.Is v
 unfolding readTimestamp
 time-back v h = rw (count-decimal 1 13 v (length-decimal v) (omega (arith, decimal-short v h)), le-leb v latestTime (omega arith))
 
-pub sample-plain-back : (z : ℤ) → fitsKind Ascii z ≡ true → readSample (plain z) ≡ whole.Is z
-unfolding readSample
-sample-plain-back z h = rw (whole-plain z (omega (arith, sample-short z h)), h)
+pub sample-back : (l : Layout) (z : ℤ) → fits l z ≡ true → readSample l (sampleChars l z) ≡ whole.Is z
+sample-back l z f =
+    told-sample l (sampleChars l z) z
+    (on-test (isMissing z)
+    (λ t. inl (is-missing z t, chars-missing l z t))
+    (λ t. inr (rw (chars-there l z t) (whole-plain z (omega (arith, plain-short z (fits-small l z f)))), fits-there l z f t)))
 
 pub status-back : (b : Bool) → (isStatus (statusChar b ∷ []) ≡ true) × (statusIn (statusChar b ∷ []) ≡ b)
 unfolding isStatus statusIn
@@ -64,13 +70,13 @@ module _ (l : Layout) (n : ℕ) (r : Row) (f : Fits l r) where
         count = fields-line l n r;
         number = rw (number-field l n r) (count-decimal 1 10 n (length-decimal n) (decimal-short n h));
         time = rw (time-field l n r, time-back (r .time) (f .time));
-        samples = λ i k. rw (sample-field l n r i k, sample-plain-back (getD (r .samples) i (pos 0)) (f .samples i k));
+        samples = λ i k. rw (sample-field l n r i k, sample-back l (getD (r .samples) i (pos 0)) (f .samples i k));
         statuses = λ i k. rw (status-field l n r i k) (status-back (getD (r .statuses) i false) .0);
       })
 
-  sample-read : (i : ℕ) → i < l .analogs → fieldSample (afterFields 2 (lineOf l n r)) i ≡ getD (r .samples) i (pos 0)
+  sample-read : (i : ℕ) → i < l .analogs → fieldSample l (afterFields 2 (lineOf l n r)) i ≡ getD (r .samples) i (pos 0)
   unfolding sampleIn
-  sample-read i h = rw (sample-at, sample-field l n r i h, sample-plain-back (getD (r .samples) i (pos 0)) (f .samples i h))
+  sample-read i h = rw (sample-at l, sample-field l n r i h, sample-back l (getD (r .samples) i (pos 0)) (f .samples i h))
 
   status-read : (i : ℕ) → i < l .statuses → fieldStatus (afterFields (2 + l .analogs) (lineOf l n r)) i ≡ getD (r .statuses) i false
   status-read i h = rw (status-at l, status-field l n r i h) (status-back (getD (r .statuses) i false) .1)
@@ -81,7 +87,7 @@ module _ (l : Layout) (n : ℕ) (r : Row) (f : Fits l r) where
       rw (
         time-field l n r,
         time-back (r .time) (f .time),
-        tab-ext (fieldSample (afterFields 2 (lineOf l n r))) (λ i. getD (r .samples) i (pos 0)) (l .analogs) sample-read,
+        tab-ext (fieldSample l (afterFields 2 (lineOf l n r))) (λ i. getD (r .samples) i (pos 0)) (l .analogs) sample-read,
         tab-ext (fieldStatus (afterFields (2 + l .analogs) (lineOf l n r))) (λ i. getD (r .statuses) i false) (l .statuses) status-read,
       )
 

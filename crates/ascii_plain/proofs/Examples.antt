@@ -1,14 +1,17 @@
 -- A plain row by example, computed.
---     example      the row that clause 8 of the standard shows, its spaces left out
+--     example              the row that clause 8 of the standard shows, its spaces left out
+--     missing-example      a missing sample, and the lowest that is there
 -- Assumes nothing.
 use mathlib.Core.Path.{_≡_, refl}
 use mathlib.Core.Bool.{true, false}
 use mathlib.Core.List.{[], _∷_}
 use lib.IntN.{pos, negsuc}
 use Rattle.ground.specs.Quoted.{quoted}
+use Rattle.words.specs.Signed.{isLowest}
 use Rattle.numerals.specs.Decimals.{decimalIn, decimal, plain}
 use Rattle.model.specs.declared.Kind.the-variants.{Ascii}
-use Rattle.ascii_plain.specs.Rows.{lineOf, textOf}
+use Rattle.model.specs.Samples.{missing, isMissing}
+use Rattle.ascii_plain.specs.Rows.{sampleChars, lineOf, textOf}
 
 pub example :
     textOf
@@ -20,5 +23,14 @@ pub example :
       statuses = false ∷ false ∷ false ∷ false ∷ true ∷ true ∷ [];
     })
     ≡ quoted "5,667,-760,1274,72,61,-140,-502,0,0,0,0,1,1\r\n"
-unfolding decimalIn decimal plain lineOf textOf
+unfolding decimalIn decimal plain isLowest isMissing sampleChars lineOf textOf
 example = refl
+
+pub missing-example :
+    textOf
+    (record { analogs = 2; statuses = 1; rows = 1; kind = Ascii })
+    1
+    (record { time = 7; samples = missing ∷ negsuc 2147483646 ∷ []; statuses = true ∷ [] })
+    ≡ quoted "1,7,,-2147483647,1\r\n"
+unfolding decimalIn decimal plain isLowest isMissing sampleChars lineOf textOf
+missing-example = refl

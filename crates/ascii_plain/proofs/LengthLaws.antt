@@ -1,5 +1,6 @@
 -- Laws of the lengths in a plain row.
---     decimal-short, plain-short, sample-short     a number of 32 bits has at most 10 characters, and with its sign at most 11
+--     decimal-short, plain-short                   a number of 32 bits has at most 10 characters, and with its sign at most 11
+--     chars-missing, chars-there, chars-short      the characters of a sample: none where it is missing, else its number's, and so at most 11
 --     samples-long                                 the samples have their length
 --     samples-next, samples-within                 one sample more, and sample i within all
 --     samples-most                                 a samples take at most 12 * a characters
@@ -8,28 +9,28 @@
 --     line-most                                    the line of a sized layout has at most 1,880 characters
 -- Assumes nothing.
 use mathlib.Core.Path.{_≡_, refl, sym, _∙_}
-use mathlib.Core.Bool.{Bool, true}
+use mathlib.Core.Bool.{Bool, true, false}
 use mathlib.Core.Logic.{⊎-elim}
-use mathlib.Core.List.{List, _++_}
+use mathlib.Core.List.{List, [], _++_}
 use Prim.Native.Nat.{ℕ, zero, suc, _+_, _*_, _^_, _<_, _≤_}
 use native.Mathlib.Numerals.{add-one}
 use native.Mathlib.Omega.{arith}
 use lib.IntN.{ℤ, pos, negsuc}
 use lib.ListN.{length, getD, length-append}
 use lib.Signed.{mag}
-use Rattle.ground.proofs.Cases.{lt-or-ge}
+use Rattle.ground.specs.Tables.{cat}
+use Rattle.ground.proofs.Cases.{on-test, lt-or-ge}
 use Rattle.ground.proofs.Tables.{length-cat}
 use Rattle.numerals.specs.Decimals.{decimal, plain}
 use Rattle.numerals.proofs.PlainLaws.{length-decimal-le}
 use Rattle.numerals.proofs.WholeLaws.{plain-pos, plain-neg}
-use Rattle.model.specs.declared.Kind.the-variants.{Ascii}
 use Rattle.model.specs.declared.Layout.{Layout}
 use Rattle.model.specs.declared.Row.{Row}
-use Rattle.model.specs.Kinds.{fitsKind}
 use Rattle.model.specs.Layouts.{Sized}
-use Rattle.model.proofs.KindLaws.{fits-size}
-use Rattle.ascii_plain.specs.Rows.{headText, samplesText, statusText, statusesText, lineOf, textOf}
-use Rattle.ascii_plain.specs.Inner.{headLength, samplesLength, lengthBy, lengthBy, textLength}
+use Rattle.model.specs.Samples.{isMissing, fits}
+use Rattle.model.proofs.SampleLaws.{fits-small}
+use Rattle.ascii_plain.specs.Rows.{headText, sampleChars, sampleText, samplesText, statusText, statusesText, lineOf, textOf}
+use Rattle.ascii_plain.specs.Inner.{headLength, samplesLength, lengthBy, textLength}
 
 pub decimal-short : (v : ℕ) → v < 2 ^ 32 → length (decimal v) ≤ 10
 decimal-short v h = length-decimal-le 9 v (omega arith)
@@ -38,29 +39,42 @@ pub plain-short : (z : ℤ) → mag z < 2 ^ 31 → length (plain z) ≤ 11
 plain-short (pos v) h = rw (plain-pos v) (omega (arith, decimal-short v (omega arith)))
 plain-short (negsuc v) h = rw (plain-neg v) (omega (arith, decimal-short (suc v) (omega arith)))
 
-pub sample-short : (z : ℤ) → fitsKind Ascii z ≡ true → length (plain z) ≤ 11
-sample-short z h = plain-short z (fits-size Ascii z h)
+module _ (l : Layout) (z : ℤ) where
+  pub chars-missing : isMissing z ≡ true → sampleChars l z ≡ []
+  unfolding sampleChars
+  chars-missing t = rw t
 
-module _ (zs : List ℤ) where
-  pub samples-long : (a : ℕ) → length (samplesText a zs) ≡ samplesLength zs a
+  pub chars-there : isMissing z ≡ false → sampleChars l z ≡ plain z
+  unfolding sampleChars
+  chars-there t = rw t
+
+  pub chars-short : mag z < 2 ^ 31 → length (sampleChars l z) ≤ 11
+  chars-short h =
+      on-test (isMissing z)
+      (λ t. rw (chars-missing t) (omega arith))
+      (λ t. rw (chars-there t) (plain-short z h))
+
+module _ (l : Layout) (zs : List ℤ) where
+  pub samples-long : (a : ℕ) → length (cat (sampleText l zs) a) ≡ samplesLength l zs a
   samples-long zero = refl
-  samples-long (suc a) = length-append (samplesText a zs) _ ∙ omega (arith, samples-long a)
+  samples-long (suc a) = length-append (cat (sampleText l zs) a) _ ∙ omega (arith, samples-long a)
 
-  pub samples-next : (i : ℕ) → samplesLength zs (i + 1) ≡ samplesLength zs i + (1 + length (plain (getD zs i (pos 0))))
+  pub samples-next : (i : ℕ) → samplesLength l zs (i + 1) ≡ samplesLength l zs i + (1 + length (sampleChars l (getD zs i (pos 0))))
   samples-next i = rw add-one
 
-  pub samples-within : (i a : ℕ) → i < a → samplesLength zs i + (1 + length (plain (getD zs i (pos 0)))) ≤ samplesLength zs a
+  pub samples-within : (i a : ℕ) → i < a → samplesLength l zs i + (1 + length (sampleChars l (getD zs i (pos 0)))) ≤ samplesLength l zs a
   samples-within i zero h = absurd (omega arith)
   samples-within i (suc a) h =
       ⊎-elim
-      (λ l. omega (arith, samples-within i a l))
-      (λ (l : a ≤ i). let e : i ≡ a = omega arith in rw e (omega arith))
+      (λ k. omega (arith, samples-within i a k))
+      (λ (k : a ≤ i). let e : i ≡ a = omega arith in rw e (omega arith))
       (lt-or-ge i a)
 
-  pub samples-most : (a : ℕ) → ((i : ℕ) → i < a → fitsKind Ascii (getD zs i (pos 0)) ≡ true) → samplesLength zs a ≤ 12 * a
+  pub samples-most : (a : ℕ) → ((i : ℕ) → i < a → fits l (getD zs i (pos 0)) ≡ true) → samplesLength l zs a ≤ 12 * a
   samples-most zero h = omega arith
   samples-most (suc a) h =
-      omega (arith, samples-most a (λ i l. h i (omega arith)), sample-short (getD zs a (pos 0)) (h a (omega arith)))
+      let z = getD zs a (pos 0) in
+      omega (arith, samples-most a (λ i k. h i (omega arith)), chars-short l z (fits-small l z (h a (omega arith))))
 
 head-long : (n t : ℕ) → length (headText n t) ≡ headLength n t
 head-long n t = length-append (decimal n) _ ∙ omega arith
@@ -69,14 +83,14 @@ statuses-long : (d : ℕ) (s : List Bool) → length (statusesText d s) ≡ d * 
 statuses-long d s = length-cat (statusText s) 2 (λ i. refl) d
 
 module _ (l : Layout) (n : ℕ) (r : Row) where
-  pub length-line : length (lineOf l n r) ≡ headLength n (r .time) + (samplesLength (r .samples) (l .analogs) + 2 * l .statuses)
+  pub length-line : length (lineOf l n r) ≡ headLength n (r .time) + (samplesLength l (r .samples) (l .analogs) + 2 * l .statuses)
   unfolding lineOf
   length-line =
       let h = headText n (r .time) in
-      let z = samplesText (l .analogs) (r .samples) in
+      let z = samplesText l (r .samples) in
       let s = statusesText (l .statuses) (r .statuses) in
       length-append h (z ++ s)
-      ∙ omega (arith, length-append z s, head-long n (r .time), samples-long (r .samples) (l .analogs), statuses-long (l .statuses) (r .statuses))
+      ∙ omega (arith, length-append z s, head-long n (r .time), samples-long l (r .samples) (l .analogs), statuses-long (l .statuses) (r .statuses))
 
   pub text-line : textLength l n r ≡ length (lineOf l n r) + 2
   unfolding lengthBy
@@ -87,7 +101,7 @@ module _ (l : Layout) (n : ℕ) (r : Row) where
   length-text = text-line ∙ sym (length-append (lineOf l n r) _)
 
   pub line-most : Sized l → n < 2 ^ 32 → r .time < 2 ^ 32
-      → ((i : ℕ) → i < l .analogs → fitsKind Ascii (getD (r .samples) i (pos 0)) ≡ true) → length (lineOf l n r) ≤ 1880
+      → ((i : ℕ) → i < l .analogs → fits l (getD (r .samples) i (pos 0)) ≡ true) → length (lineOf l n r) ≤ 1880
   line-most s hn ht fit =
-      let z = samples-most (r .samples) (l .analogs) fit in
+      let z = samples-most l (r .samples) (l .analogs) fit in
       omega (arith, length-line, decimal-short n hn, decimal-short (r .time) ht, s .analogs, s .statuses)

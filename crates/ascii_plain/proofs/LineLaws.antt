@@ -30,7 +30,9 @@ use Rattle.numerals.proofs.PlainLaws.{decimal-digits}
 use Rattle.numerals.proofs.WholeLaws.{plain-pos, plain-neg}
 use Rattle.model.specs.declared.Layout.{Layout}
 use Rattle.model.specs.declared.Row.{Row}
-use Rattle.ascii_plain.specs.Rows.{sampleText, samplesText, statusChar, statusText, statusesText, lineOf, textOf}
+use Rattle.model.specs.Samples.{isMissing}
+use Rattle.ascii_plain.specs.Rows.{sampleChars, sampleText, samplesText, statusChar, statusText, statusesText, lineOf, textOf}
+use Rattle.ascii_plain.proofs.LengthLaws.{chars-missing, chars-there}
 
 -- a minus, a digit, or a byte between the two: no comma, and one that a line may have
 abbrev isMark : ℕ → Bool
@@ -48,6 +50,12 @@ decimal-marks v =
 plain-marks : (z : ℤ) → every isMark (plain z) ≡ true
 plain-marks (pos v) = rw (plain-pos v) (decimal-marks v)
 plain-marks (negsuc v) = rw (plain-neg v) (decimal-marks (suc v))
+
+chars-marks : (l : Layout) (z : ℤ) → every isMark (sampleChars l z) ≡ true
+chars-marks l z =
+    on-test (isMissing z)
+    (λ t. rw (chars-missing l z t))
+    (λ t. rw (chars-there l z t) (plain-marks z))
 
 status-marks : (b : Bool) → every isMark (statusChar b ∷ []) ≡ true
 status-marks true = refl
@@ -71,10 +79,10 @@ module _ (l : Layout) (n : ℕ) (r : Row) where
   fieldText zero = decimal n
   fieldText (suc zero) = decimal (r .time)
   fieldText (suc (suc i)) =
-      if ltb i (l .analogs) then plain (getD (r .samples) i (pos 0))
+      if ltb i (l .analogs) then sampleChars l (getD (r .samples) i (pos 0))
       else statusChar (getD (r .statuses) (i - l .analogs) false) ∷ []
 
-  pub field-sample : (i : ℕ) → i < l .analogs → fieldText (suc (suc i)) ≡ plain (getD (r .samples) i (pos 0))
+  pub field-sample : (i : ℕ) → i < l .analogs → fieldText (suc (suc i)) ≡ sampleChars l (getD (r .samples) i (pos 0))
   field-sample i h = rw (lt-ltb i (l .analogs) h)
 
   pub field-status : (i : ℕ) → fieldText (suc (suc (l .analogs + i))) ≡ statusChar (getD (r .statuses) i false) ∷ []
@@ -87,7 +95,7 @@ module _ (l : Layout) (n : ℕ) (r : Row) where
   field-marks (suc zero) = decimal-marks (r .time)
   field-marks (suc (suc i)) =
       on-test (ltb i (l .analogs))
-      (λ e. rw e (plain-marks (getD (r .samples) i (pos 0))))
+      (λ e. rw e (chars-marks l (getD (r .samples) i (pos 0))))
       (λ e. rw e (status-marks (getD (r .statuses) (i - l .analogs) false)))
 
   pub commas-field : (j : ℕ) → commas (fieldText j) ≡ 0
@@ -95,11 +103,11 @@ module _ (l : Layout) (n : ℕ) (r : Row) where
 
   -- samples and statuses, each after its comma
   channels : cat (λ i. 44 ∷ fieldText (i + 1 + 1)) (l .analogs + l .statuses)
-      ≡ samplesText (l .analogs) (r .samples) ++ statusesText (l .statuses) (r .statuses)
+      ≡ samplesText l (r .samples) ++ statusesText (l .statuses) (r .statuses)
   channels =
       let g : ℕ → List ℕ = λ i. 44 ∷ fieldText (i + 1 + 1) in
       let a = l .analogs in
-      let z = cat-ext g (sampleText (r .samples)) a
+      let z = cat-ext g (sampleText l (r .samples)) a
       (λ i h. let e : i + 1 + 1 ≡ suc (suc i) = omega arith in ap (λ (x : List ℕ). 44 ∷ x) (ap fieldText e ∙ field-sample i h)) in
       let s = cat-ext (λ i. g (a + i)) (statusText (r .statuses)) (l .statuses)
       (λ i h. let e : a + i + 1 + 1 ≡ suc (suc (a + i)) = omega arith in ap (λ (x : List ℕ). 44 ∷ x) (ap fieldText e ∙ field-status i)) in
@@ -133,7 +141,7 @@ module _ (l : Layout) (n : ℕ) (r : Row) where
   pub time-field : fieldAt 2 (lineOf l n r) ≡ decimal (r .time)
   time-field = field 1 (omega arith)
 
-  pub sample-field : (i : ℕ) → i < l .analogs → fieldAt (3 + i) (lineOf l n r) ≡ plain (getD (r .samples) i (pos 0))
+  pub sample-field : (i : ℕ) → i < l .analogs → fieldAt (3 + i) (lineOf l n r) ≡ sampleChars l (getD (r .samples) i (pos 0))
   sample-field i h =
       let e : 3 + i ≡ suc (suc i) + 1 = omega arith in
       rw e (field (suc (suc i)) (omega arith) ∙ field-sample i h)
@@ -153,6 +161,6 @@ module _ (l : Layout) (n : ℕ) (r q : Row)
   unread-text =
       rw (
         time,
-        cat-ext (sampleText (r .samples)) (sampleText (q .samples)) (l .analogs) (λ i h. rw (samples i h)),
+        cat-ext (sampleText l (r .samples)) (sampleText l (q .samples)) (l .analogs) (λ i h. rw (samples i h)),
         cat-ext (statusText (r .statuses)) (statusText (q .statuses)) (l .statuses) (λ i h. rw (statuses i h)),
       )

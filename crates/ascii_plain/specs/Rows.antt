@@ -1,4 +1,4 @@
--- The plain written row: no spaces, no plus, no needless zeros, zero as 0, CR LF at its end.
+-- The plain written row: no spaces, no plus, no needless zeros, zero as 0, nothing for a missing sample, CR LF at its end.
 use mathlib.Core.Bool.{Bool, false}
 use mathlib.Core.List.{List, [], _∷_, _++_}
 use Prim.Native.Nat.{ℕ, _+_}
@@ -9,18 +9,23 @@ use Rattle.ground.specs.Tables.{cat}
 use Rattle.numerals.specs.Decimals.{decimal, plain}
 use Rattle.model.specs.declared.Layout.{Layout}
 use Rattle.model.specs.declared.Row.{Row}
+use Rattle.model.specs.Samples.{isMissing}
 
 -- number and timestamp
 abbrev pub headText : ℕ → ℕ → List ℕ
 headText n time = decimal n ++ 44 ∷ decimal time
 
--- sample i after its comma
-abbrev pub sampleText : List ℤ → ℕ → List ℕ
-sampleText zs i = 44 ∷ plain (getD zs i (pos 0))
+-- the characters of a sample in the layout: none for a missing one, in any layout
+unfoldable pub sampleChars : Layout → ℤ → List ℕ
+sampleChars l z = if isMissing z then [] else plain z
 
--- the first a samples
-abbrev pub samplesText : ℕ → List ℤ → List ℕ
-samplesText a zs = cat (sampleText zs) a
+-- sample i after its comma
+abbrev pub sampleText : Layout → List ℤ → ℕ → List ℕ
+sampleText l zs i = 44 ∷ sampleChars l (getD zs i (pos 0))
+
+-- the samples, each after its comma
+abbrev pub samplesText : Layout → List ℤ → List ℕ
+samplesText l zs = cat (sampleText l zs) (l .analogs)
 
 -- a status is one character
 abbrev pub statusChar : Bool → ℕ
@@ -38,7 +43,7 @@ statusesText d s = cat (statusText s) d
 unfoldable pub lineOf : Layout → ℕ → Row → List ℕ
 lineOf l n r =
     headText n (r .time)
-    ++ (samplesText (l .analogs) (r .samples) ++ statusesText (l .statuses) (r .statuses))
+    ++ (samplesText l (r .samples) ++ statusesText (l .statuses) (r .statuses))
 
 -- the plain written row
 unfoldable pub textOf : Layout → ℕ → Row → List ℕ

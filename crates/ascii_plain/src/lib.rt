@@ -6,9 +6,9 @@ ghost use mathlib.Core.Path.{_≡_};
 ghost use mathlib.Core.List.{[], _∷_, _++_};
 ghost use Prim.Native.Nat.{_+_, _*_, _≤_};
 ghost use lib.ListN.{length};
-ghost use Rattle.numerals.specs.Decimals.{decimal, plain};
+ghost use Rattle.numerals.specs.Decimals.{decimal};
 ghost use Rattle.model.specs.Layouts.{Sized};
-ghost use Rattle.ascii_plain.specs.Rows.{headText, samplesText, statusChar, statusesText, lineOf, textOf};
+ghost use Rattle.ascii_plain.specs.Rows.{headText, sampleChars, samplesText, statusChar, statusesText, lineOf, textOf};
 ghost use Rattle.ascii_plain.specs.Inner.{headLength, samplesLength, lengthBy, textLength};
 
 const COMMA: u8 = 44;
@@ -26,22 +26,26 @@ pub fn head_length(n: u32, time: u32) -> usize
 }
 
 // How many characters a sample and its comma take.
-fn sample_length(z: i32) -> usize
-    ensures { λ r. ⌜ r ≡ 1 + length (plain z) ⌝ }
+fn sample_length(layout: Layout, z: i32) -> usize
+    ensures { λ r. ⌜ r ≡ 1 + length (sampleChars layout z) ⌝ }
 {
-    1 + numerals::plain_length(words::widened(z))
+    if !model::is_missing(z) {
+        return 1 + numerals::plain_length(words::widened(z));
+    }
+    1
 }
 
-// How many characters the first a samples take, each with its comma: at most 12 a sample.
-pub fn samples_length(zs: &[i32], a: usize) -> usize
-    requires { ⌜ (a ≤ length (now zs)) × (a ≤ 96) ⌝ }
-    ensures { λ r. ⌜ r ≡ samplesLength (now (zs .entry)) a ⌝ }
-    ensures { λ r. ⌜ r ≤ 12 * a ⌝ }
+// How many characters the samples take, each with its comma: at most 12 a sample.
+fn samples_length(layout: Layout, zs: &[i32]) -> usize
+    requires { ⌜ (Sized layout) × (96 ≤ length (now zs)) ⌝ }
+    ensures { λ r. ⌜ r ≡ samplesLength layout (now (zs .entry)) (layout .analogs) ⌝ }
+    ensures { λ r. ⌜ r ≤ 12 * layout .analogs ⌝ }
 {
+    let a = layout.analogs as usize;
     let mut n = 0;
     let mut i = 0;
     while i < a {
-        n += sample_length(zs[i]);
+        n += sample_length(layout, zs[i]);
         i += 1;
     }
     n
@@ -53,9 +57,8 @@ pub fn length_by(layout: Layout, n: u32, time: u32, zs: &[i32]) -> usize
     ensures { λ r. ⌜ r ≡ lengthBy layout n time (now (zs .entry)) ⌝ }
     ensures { λ r. ⌜ r ≤ 2048 ⌝ }
 {
-    let a = layout.analogs as usize;
     let count = layout.statuses as usize;
-    head_length(n, time) + (samples_length(zs, a) + (STATUS * count + END))
+    head_length(n, time) + (samples_length(layout, zs) + (STATUS * count + END))
 }
 
 // How many bytes row n takes.
@@ -90,25 +93,29 @@ fn put_head(n: u32, time: u32, d: &mut [u8])
 }
 
 // A comma and the sample fill the slice.
-fn put_sample(z: i32, d: &mut [u8])
-    requires { ⌜ length (now d) ≡ 1 + length (plain z) ⌝ }
-    ensures { λ _. ⌜ now (d .exit) ≡ 44 ∷ plain z ⌝ }
+fn put_sample(layout: Layout, z: i32, d: &mut [u8])
+    requires { ⌜ length (now d) ≡ 1 + length (sampleChars layout z) ⌝ }
+    ensures { λ _. ⌜ now (d .exit) ≡ 44 ∷ sampleChars layout z ⌝ }
 {
     d[0] = COMMA;
+    if model::is_missing(z) {
+        return;
+    }
     numerals::put_plain(&mut d[1..], words::widened(z));
 }
 
-// The first a samples fill the slice.
-fn put_samples(zs: &[i32], a: usize, d: &mut [u8])
-    requires { ⌜ (a ≤ length (now zs)) × (length (now d) ≡ samplesLength (now zs) a) ⌝ }
-    ensures { λ _. ⌜ now (d .exit) ≡ samplesText a (now (zs .entry)) ⌝ }
+// The samples fill the slice.
+fn put_samples(layout: Layout, zs: &[i32], d: &mut [u8])
+    requires { ⌜ (layout .analogs ≤ length (now zs)) × (length (now d) ≡ samplesLength layout (now zs) (layout .analogs)) ⌝ }
+    ensures { λ _. ⌜ now (d .exit) ≡ samplesText layout (now (zs .entry)) ⌝ }
 {
+    let a = layout.analogs as usize;
     let mut from = 0;
     let mut i = 0;
     while i < a {
         let z = zs[i];
-        let to = from + sample_length(z);
-        put_sample(z, &mut d[from..to]);
+        let to = from + sample_length(layout, z);
+        put_sample(layout, z, &mut d[from..to]);
         from = to;
         i += 1;
     }
@@ -145,14 +152,16 @@ fn put_statuses(s: &[bool], count: usize, d: &mut [u8])
     }
 }
 
-// The first a samples and the first count statuses fill the slice; what the statuses leave is the samples'.
-fn put_channels(zs: &[i32], a: usize, s: &[bool], count: usize, d: &mut [u8])
-    requires { ⌜ (a ≤ length (now zs)) × (count ≤ length (now s)) × (length (now d) ≡ samplesLength (now zs) a + 2 * count) ⌝ }
-    ensures { λ _. ⌜ now (d .exit) ≡ samplesText a (now (zs .entry)) ++ statusesText count (now (s .entry)) ⌝ }
+// The samples and the statuses fill the slice; what the statuses leave is the samples'.
+fn put_channels(layout: Layout, zs: &[i32], s: &[bool], d: &mut [u8])
+    requires { ⌜ (layout .analogs ≤ length (now zs)) × (layout .statuses ≤ length (now s)) ⌝ }
+    requires { ⌜ length (now d) ≡ samplesLength layout (now zs) (layout .analogs) + 2 * layout .statuses ⌝ }
+    ensures { λ _. ⌜ now (d .exit) ≡ samplesText layout (now (zs .entry)) ++ statusesText (layout .statuses) (now (s .entry)) ⌝ }
 {
+    let count = layout.statuses as usize;
     let end = d.len();
     let mid = end - STATUS * count;
-    put_samples(zs, a, &mut d[..mid]);
+    put_samples(layout, zs, &mut d[..mid]);
     put_statuses(s, count, &mut d[mid..end]);
 }
 
@@ -161,15 +170,13 @@ fn put_line(layout: Layout, n: u32, row: Row, d: &mut [u8])
     requires { ⌜ (Sized layout) × (length (now d) ≡ length (lineOf layout n row)) ⌝ }
     ensures { λ _. ⌜ now (d .exit) ≡ lineOf layout n row ⌝ }
 {
-    let a = layout.analogs as usize;
-    let count = layout.statuses as usize;
     let time = row.time;
     let zs = row.samples;
     let s = row.statuses;
     let mid = head_length(n, time);
     let end = d.len();
     put_head(n, time, &mut d[..mid]);
-    put_channels(&zs, a, &s, count, &mut d[mid..end]);
+    put_channels(layout, &zs, &s, &mut d[mid..end]);
 }
 
 // CR LF fills the slice.

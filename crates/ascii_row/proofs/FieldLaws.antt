@@ -1,30 +1,38 @@
 -- Laws of the fields of a text row.
 --     timestamp-told, time-below  a timestamp that is read is the field's count, and below 2 ^ 32
---     sample-told, sample-fits    a sample that is read is the field's whole number, and fits
+--     SampleTold, sample-told, told-sample     what a field says that is read as a sample: missing where it is empty, or its whole number; and the other way round
+--     whole-some                  a field that is read as a whole number is not empty
+--     told-fits, sample-fits      what is read as a sample can be written
 --     time-read, sample-read      what a field that is fine is read as
---     time-fine, sample-fine      what is read as a count or a whole number in its range is fine
+--     time-fine, sample-fine      what is read as a count or a whole number in its range is fine, and so is an empty sample
 --     status-told, status-not     what is a status and what is not, by its length
 -- Assumes nothing.
 use mathlib.Core.Path.{_≡_, refl}
-use mathlib.Core.Bool.{true, false, _||_}
+use mathlib.Core.Bool.{true, false, not, _&&_, _||_}
+use mathlib.Core.Logic.{_⊎_, inl, inr}
 use mathlib.Core.List.{List, [], _∷_}
 use Prim.Native.Nat.{ℕ, _<_, _^_, _≤_}
 use native.Mathlib.Omega.{arith}
-use borrow.Author.Tests.{leb-true, le-leb}
+use borrow.Author.Tests.{leb-true, le-leb, ne-eqb}
 use lib.Dec.{eqb, leb}
-use lib.IntN.{ℤ}
+use lib.IntN.{ℤ, pos}
 use lib.ListN.{length, getD}
+use lib.Signed.{ltZ}
 use Rattle.ground.proofs.Cases.{on-test}
 use Rattle.numerals.specs.declared.Count.{Count}
 use Rattle.numerals.specs.declared.Count.the-variants as count
 use Rattle.numerals.specs.declared.Whole.{Whole}
 use Rattle.numerals.specs.declared.Whole.the-variants as whole
-use Rattle.numerals.specs.Counts.{readCount, countIn}
+use Rattle.numerals.specs.Counts.{lengthIn, readCount, countIn}
 use Rattle.numerals.specs.Wholes.{readWhole}
-use Rattle.model.specs.declared.Kind.the-variants.{Ascii}
-use Rattle.model.specs.Kinds.{fitsKind}
+use Rattle.model.specs.declared.Kind.{Kind}
+use Rattle.model.specs.declared.Kind.the-variants.{Ascii, Binary, Binary32}
+use Rattle.model.specs.declared.Layout.{Layout}
+use Rattle.model.specs.Kinds.{lowestOf, highestOf}
+use Rattle.model.specs.Samples.{missing, holds, fits}
 use Rattle.model.specs.Rows.{latestTime}
-use Rattle.ascii_row.specs.Fields.{atMost, sampleFit, readTimestamp, readSample, isStatus, isCount, isWhole, wholeIn, timeIn, sampleIn}
+use Rattle.model.proofs.SampleLaws.{missing-fits, there-fits}
+use Rattle.ascii_row.specs.Fields.{atMost, inRange, readTimestamp, readSample, isStatus, isCount, isWhole, wholeIn, timeIn, sampleIn}
 
 most-told : (m : ℕ) (k : Count) (v : ℕ) → atMost m k ≡ count.Is v → (k ≡ count.Is v) × (v ≤ m)
 most-told m (count.Is w) v e =
@@ -45,25 +53,55 @@ pub time-below : (f : List ℕ) → timeIn f < 2 ^ 32
 unfolding timeIn
 time-below f = count-below (2 ^ 32) (readTimestamp f) (omega arith) (λ v e. timestamp-told f v e .1)
 
-fit-told : (k : Whole) (z : ℤ) → sampleFit k ≡ whole.Is z → (k ≡ whole.Is z) × (fitsKind Ascii z ≡ true)
-fit-told (whole.Is y) z e =
-    on-test (fitsKind Ascii y)
-    (λ t. let q : whole.Is y ≡ whole.Is z = rw t at e in let s : y ≡ z = cc in (q, rw s at t))
-    (λ t. let q : whole.Form ≡ whole.Is z = rw t at e in (cc, cc))
-fit-told whole.Form z e = (cc, cc)
+-- a field that is read as the sample z: empty, and z is the place of a missing one; or its whole number, which is a sample of the layout
+abbrev pub SampleTold : Layout → List ℕ → ℤ → Type 0
+SampleTold l f z = ((z ≡ missing) × (f ≡ [])) ⊎ ((readWhole f ≡ whole.Is z) × (holds l z ≡ true))
 
-pub sample-told : (f : List ℕ) (z : ℤ) → readSample f ≡ whole.Is z → (readWhole f ≡ whole.Is z) × (fitsKind Ascii z ≡ true)
-unfolding readSample
-sample-told f z e = fit-told (readWhole f) z e
+-- a field that has a character is not empty
+not-empty : (b : ℕ) (f : List ℕ) → eqb (length (b ∷ f)) 0 ≡ false
+not-empty b f = ne-eqb (length (b ∷ f)) 0 (λ e. omega arith)
 
-whole-fits : (k : Whole) → ((z : ℤ) → k ≡ whole.Is z → fitsKind Ascii z ≡ true) → fitsKind Ascii (wholeIn k) ≡ true
-unfolding fitsKind
-whole-fits (whole.Is z) f = f z refl
-whole-fits whole.Form f = refl
+pub whole-some : (f : List ℕ) (z : ℤ) → readWhole f ≡ whole.Is z → eqb (length f) 0 ≡ false
+unfolding readWhole lengthIn
+whole-some [] z e = let q : whole.Form ≡ whole.Is z = e in cc
+whole-some (b ∷ f) z e = not-empty b f
 
-pub sample-fits : (f : List ℕ) → fitsKind Ascii (sampleIn f) ≡ true
-unfolding sampleIn
-sample-fits f = whole-fits (readSample f) (λ z e. sample-told f z e .1)
+-- zero is within every range
+zero-within : (k : Kind) → not (ltZ (pos 0) (lowestOf k)) && not (ltZ (highestOf k) (pos 0)) ≡ true
+zero-within Ascii = refl
+zero-within Binary = refl
+zero-within Binary32 = refl
+
+module _ (l : Layout) where
+  range-told : (k : Whole) (z : ℤ) → inRange l k ≡ whole.Is z → (k ≡ whole.Is z) × (holds l z ≡ true)
+  range-told (whole.Is y) z e =
+      on-test (holds l y)
+      (λ t. let q : whole.Is y ≡ whole.Is z = rw t at e in let s : y ≡ z = cc in (q, rw s at t))
+      (λ t. let q : whole.Form ≡ whole.Is z = rw t at e in (cc, cc))
+  range-told whole.Form z e = (cc, cc)
+
+  pub sample-told : (f : List ℕ) (z : ℤ) → readSample l f ≡ whole.Is z → SampleTold l f z
+  unfolding readSample
+  sample-told [] z e = let q : whole.Is missing ≡ whole.Is z = e in inl (cc, refl)
+  sample-told (b ∷ f) z e = inr (range-told (readWhole (b ∷ f)) z (rw (not-empty b f) at e))
+
+  pub told-sample : (f : List ℕ) (z : ℤ) → SampleTold l f z → readSample l f ≡ whole.Is z
+  unfolding readSample
+  told-sample f z (inl (e, n)) = rw (n, e)
+  told-sample f z (inr (e, h)) = rw (whole-some f z e, e, h)
+
+  pub told-fits : (f : List ℕ) (z : ℤ) → SampleTold l f z → fits l z ≡ true
+  told-fits f z (inl (e, n)) = rw e (missing-fits l)
+  told-fits f z (inr (e, h)) = there-fits l z (λ t. h)
+
+  whole-fits : (k : Whole) → ((z : ℤ) → k ≡ whole.Is z → fits l z ≡ true) → fits l (wholeIn k) ≡ true
+  unfolding holds
+  whole-fits (whole.Is z) f = f z refl
+  whole-fits whole.Form f = there-fits l (pos 0) (λ t. zero-within (l .kind))
+
+  pub sample-fits : (f : List ℕ) → fits l (sampleIn l f) ≡ true
+  unfolding sampleIn
+  sample-fits f = whole-fits (readSample l f) (λ z e. told-fits f z (sample-told f z e))
 
 count-read : (k : Count) → isCount k ≡ true → k ≡ count.Is (countIn k)
 count-read (count.Is v) h = refl
@@ -77,17 +115,16 @@ whole-read : (k : Whole) → isWhole k ≡ true → k ≡ whole.Is (wholeIn k)
 whole-read (whole.Is z) h = refl
 whole-read whole.Form h = cc
 
-pub sample-read : (f : List ℕ) → isWhole (readSample f) ≡ true → readWhole f ≡ whole.Is (sampleIn f)
+pub sample-read : (l : Layout) (f : List ℕ) → isWhole (readSample l f) ≡ true → SampleTold l f (sampleIn l f)
 unfolding sampleIn
-sample-read f h = sample-told f (sampleIn f) (whole-read (readSample f) h) .0
+sample-read l f h = sample-told l f (sampleIn l f) (whole-read (readSample l f) h)
 
 pub time-fine : (f : List ℕ) (v : ℕ) → readCount 1 13 f ≡ count.Is v → v ≤ latestTime → isCount (readTimestamp f) ≡ true
 unfolding readTimestamp
 time-fine f v e h = rw (e, le-leb v latestTime h)
 
-pub sample-fine : (f : List ℕ) (z : ℤ) → readWhole f ≡ whole.Is z → fitsKind Ascii z ≡ true → isWhole (readSample f) ≡ true
-unfolding readSample
-sample-fine f z e h = rw (e, h)
+pub sample-fine : (l : Layout) (f : List ℕ) (z : ℤ) → SampleTold l f z → isWhole (readSample l f) ≡ true
+sample-fine l f z t = rw (told-sample l f z t)
 
 pub status-told : (f : List ℕ) → length f ≡ 1 → isStatus f ≡ (eqb (getD f 0 0) 48 || eqb (getD f 0 0) 49)
 unfolding isStatus

@@ -12,14 +12,15 @@ use Rattle.ground.specs.Tables.{tab}
 use Rattle.ground.proofs.Tables.{tab-set}
 use Rattle.text.specs.Fields.{fieldLength, firstField, afterFields, fieldAt}
 use Rattle.text.proofs.FieldLaws.{field-after, after-step, walk-on, walk-shorter}
+use Rattle.model.specs.declared.Layout.{Layout}
 use Rattle.model.specs.Refusals.{refused}
 use Rattle.ascii_row.specs.Rows.{fieldFine, checkFields}
 
-pub fields-turn : (a n : ℕ) (t : List ℕ) (k end : ℕ) → k < end
-    → checkFields a n t k (end - k)
-    ≡ (must (fieldFine a k (firstField t)) (refused 14 n k) >> checkFields a n (drop (fieldLength t + 1) t) (k + 1) (end - (k + 1)))
+pub fields-turn : (l : Layout) (n : ℕ) (t : List ℕ) (k end : ℕ) → k < end
+    → checkFields l n t k (end - k)
+    ≡ (must (fieldFine l k (firstField t)) (refused 14 n k) >> checkFields l n (drop (fieldLength t + 1) t) (k + 1) (end - (k + 1)))
 unfolding checkFields
-fields-turn a n t k end h = let e : end - k ≡ suc (end - (k + 1)) = omega arith in rw e
+fields-turn l n t k end h = let e : end - k ≡ suc (end - (k + 1)) = omega arith in rw e
 
 -- t is what follows i fields of l, of which m bytes are the first field and k with its comma; d is as d₀ was past the first i
 module _ {A : Type 0} (g : List ℕ → A) (l t : List ℕ) (d₀ d : List A) (i m k : ℕ) where

@@ -4,7 +4,7 @@ use mathlib.Core.List.{List, [], _∷_}
 use Prim.Native.Nat.{ℕ}
 use lib.Dec.{eqb, leb}
 use lib.IntN.{ℤ, pos}
-use lib.ListN.{getD}
+use lib.ListN.{length, getD}
 use Rattle.ground.specs.Choice.{if_then_else_}
 use Rattle.numerals.specs.declared.Count.{Count}
 use Rattle.numerals.specs.declared.Count.the-variants as count
@@ -12,8 +12,8 @@ use Rattle.numerals.specs.declared.Whole.{Whole}
 use Rattle.numerals.specs.declared.Whole.the-variants as whole
 use Rattle.numerals.specs.Counts.{readCount, countIn}
 use Rattle.numerals.specs.Wholes.{readWhole}
-use Rattle.model.specs.declared.Kind.the-variants.{Ascii}
-use Rattle.model.specs.Kinds.{fitsKind}
+use Rattle.model.specs.declared.Layout.{Layout}
+use Rattle.model.specs.Samples.{missing, holds}
 use Rattle.model.specs.Rows.{latestTime}
 
 -- a count of at most so much; a larger one is bad
@@ -25,14 +25,14 @@ atMost most count.Form = count.Form
 unfoldable pub readTimestamp : List ℕ → Count
 readTimestamp f = atMost latestTime (readCount 1 13 f)
 
--- a whole number within the range of a text's samples; another is bad
-abbrev pub sampleFit : Whole → Whole
-sampleFit (whole.Is z) = if fitsKind Ascii z then whole.Is z else whole.Form
-sampleFit whole.Form = whole.Form
+-- a whole number that is a sample of the layout; another is bad
+abbrev pub inRange : Layout → Whole → Whole
+inRange l (whole.Is z) = if holds l z then whole.Is z else whole.Form
+inRange l whole.Form = whole.Form
 
--- a sample: 1 to 13 characters, an optional sign and digits, within the range
-unfoldable pub readSample : List ℕ → Whole
-readSample f = sampleFit (readWhole f)
+-- a sample: an empty field for a missing one; or 1 to 13 characters, an optional sign and digits, within the range
+unfoldable pub readSample : Layout → List ℕ → Whole
+readSample l f = if eqb (length f) 0 then whole.Is missing else inRange l (readWhole f)
 
 -- a status: exactly 0 or 1
 unfoldable pub isStatus : List ℕ → Bool
@@ -60,8 +60,8 @@ unfoldable pub timeIn : List ℕ → ℕ
 timeIn f = countIn (readTimestamp f)
 
 -- the sample of a field
-unfoldable pub sampleIn : List ℕ → ℤ
-sampleIn f = wholeIn (readSample f)
+unfoldable pub sampleIn : Layout → List ℕ → ℤ
+sampleIn l f = wholeIn (readSample l f)
 
 -- the status of a field
 unfoldable pub statusIn : List ℕ → Bool

@@ -27,19 +27,19 @@ abbrev pub field : ℕ → ℕ → Count → Said Refusal ℕ
 field n k (Is v) = says v
 field n k Form = refuses (refused 14 n k)
 
--- field k, from the second on, of a row with a samples: the timestamp, a sample, or a status
-unfoldable pub fieldFine : ℕ → ℕ → List ℕ → Bool
-fieldFine a k f =
+-- field k, from the second on, of a row: the timestamp, a sample, or a status
+unfoldable pub fieldFine : Layout → ℕ → List ℕ → Bool
+fieldFine l k f =
     if eqb k 2 then isCount (readTimestamp f)
-    else if leb k (2 + a) then isWhole (readSample f)
+    else if leb k (2 + l .analogs) then isWhole (readSample l f)
     else isStatus f
 
 -- m fields of row n are fine, from field k on, with which t begins
-unfoldable pub checkFields : ℕ → ℕ → List ℕ → ℕ → ℕ → Said Refusal (Unit {0})
-checkFields a n t k zero = says tt
-checkFields a n t k (suc m) = do
-  must (fieldFine a k (firstField t)) (refused 14 n k)
-  checkFields a n (drop (fieldLength t + 1) t) (k + 1) m
+unfoldable pub checkFields : Layout → ℕ → List ℕ → ℕ → ℕ → Said Refusal (Unit {0})
+checkFields l n t k zero = says tt
+checkFields l n t k (suc m) = do
+  must (fieldFine l k (firstField t)) (refused 14 n k)
+  checkFields l n (drop (fieldLength t + 1) t) (k + 1) m
 
 -- the number in field 1 of row n's line is n: first 14 and then 12
 unfoldable pub checkNumber : ℕ → List ℕ → Said Refusal (Unit {0})
@@ -52,11 +52,11 @@ unfoldable pub checkLine : Layout → ℕ → List ℕ → Said Refusal (Unit {0
 checkLine l n line = do
   must (eqb (fieldCount line) (fieldsOf l)) (refused 14 n 0)
   checkNumber n line
-  checkFields (l .analogs) n (afterFields 1 line) 2 (1 + l .analogs + l .statuses)
+  checkFields l n (afterFields 1 line) 2 (1 + l .analogs + l .statuses)
 
 -- sample i of fields that are samples
-abbrev pub fieldSample : List ℕ → ℕ → ℤ
-fieldSample t i = sampleIn (fieldAt (i + 1) t)
+abbrev pub fieldSample : Layout → List ℕ → ℕ → ℤ
+fieldSample l t i = sampleIn l (fieldAt (i + 1) t)
 
 -- status i of fields that are statuses
 abbrev pub fieldStatus : List ℕ → ℕ → Bool
@@ -67,6 +67,6 @@ unfoldable pub rowOf : Layout → List ℕ → Row
 rowOf l line =
     record {
       time = timeIn (fieldAt 2 line);
-      samples = padded (fieldSample (afterFields 2 line)) (l .analogs) 96 (pos 0);
+      samples = padded (fieldSample l (afterFields 2 line)) (l .analogs) 96 (pos 0);
       statuses = padded (fieldStatus (afterFields (2 + l .analogs) line)) (l .statuses) 256 false;
     }

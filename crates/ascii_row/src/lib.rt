@@ -1,7 +1,6 @@
 // Rows of text: whether the line of a row is fine, and the row that it says.
 // Each function gives, on any bytes, exactly what the definition of its name says; a line is walked a fixed number of times, whatever its number of fields.
 use model::Answer;
-use model::Kind;
 use model::Layout;
 use model::Row;
 use numerals::Count;
@@ -21,6 +20,9 @@ ghost use Rattle.ascii_row.specs.Rows.{fieldFine, checkFields, checkNumb
 // The highest timestamp, as counts are.
 pub const LATEST: u64 = Row::LATEST as u64;
 
+// The place of a missing sample, as whole numbers are.
+const MISSING: i64 = Row::MISSING as i64;
+
 // A timestamp.
 fn read_timestamp(field: &[u8]) -> Count
     ensures { λ r. ⌜ r ≡ readTimestamp (now (field .entry)) ⌝ }
@@ -36,14 +38,16 @@ fn read_timestamp(field: &[u8]) -> Count
     }
 }
 
-// A sample.
-fn read_sample(field: &[u8]) -> Whole
-    ensures { λ r. ⌜ r ≡ readSample (now (field .entry)) ⌝ }
+// A sample; it is missing where the field is empty.
+fn read_sample(layout: Layout, field: &[u8]) -> Whole
+    ensures { λ r. ⌜ r ≡ readSample layout (now (field .entry)) ⌝ }
 {
-    let kind = Kind::Ascii;
+    if field.len() == 0 {
+        return Whole::Is(MISSING);
+    }
     match numerals::read_whole(field) {
         Whole::Is(z) => {
-            if !kind.holds(z) {
+            if !layout.holds(z) {
                 return Whole::Form;
             }
             Whole::Is(z)
@@ -63,10 +67,10 @@ fn is_time(field: &[u8]) -> bool
 }
 
 // Whether a field is a sample.
-fn is_sample(field: &[u8]) -> bool
-    ensures { λ r. ⌜ r ≡ isWhole (readSample (now (field .entry))) ⌝ }
+fn is_sample(layout: Layout, field: &[u8]) -> bool
+    ensures { λ r. ⌜ r ≡ isWhole (readSample layout (now (field .entry))) ⌝ }
 {
-    match read_sample(field) {
+    match read_sample(layout, field) {
         Whole::Is(_) => true,
         Whole::Form => false,
     }
@@ -97,10 +101,10 @@ fn time_in(field: &[u8]) -> u32
 }
 
 // The sample of a field.
-fn sample_in(field: &[u8]) -> i32
-    ensures { λ r. ⌜ r ≡ sampleIn (now (field .entry)) ⌝ }
+fn sample_in(layout: Layout, field: &[u8]) -> i32
+    ensures { λ r. ⌜ r ≡ sampleIn layout (now (field .entry)) ⌝ }
 {
-    match read_sample(field) {
+    match read_sample(layout, field) {
         Whole::Is(z) => words::narrowed(z),
         Whole::Form => 0,
     }
@@ -116,31 +120,32 @@ fn status_in(field: &[u8]) -> bool
     field[0] == 49
 }
 
-// Whether field k, from the second on, of a row with a samples is what stands there.
-fn field_fine(a: usize, k: usize, field: &[u8]) -> bool
-    requires { ⌜ a ≤ 96 ⌝ }
-    ensures { λ r. ⌜ r ≡ fieldFine a k (now (field .entry)) ⌝ }
+// Whether field k, from the second on, of a row is what stands there.
+fn field_fine(layout: Layout, k: usize, field: &[u8]) -> bool
+    requires { ⌜ Sized layout ⌝ }
+    ensures { λ r. ⌜ r ≡ fieldFine layout k (now (field .entry)) ⌝ }
 {
+    let a = layout.analogs as usize;
     if k == 2 {
         return is_time(field);
     }
     if k <= 2 + a {
-        return is_sample(field);
+        return is_sample(layout, field);
     }
     is_status(field)
 }
 
 // The count fields of row n from the second on, with which `fields` begins: each is found where the one before it ends.
-fn check_fields(a: usize, n: u32, fields: &[u8], count: usize) -> Answer
-    requires { ⌜ (a ≤ 96) × (count ≤ 353) ⌝ }
-    ensures { λ r. ⌜ r ≡ answerOf (checkFields a n (now (fields .entry)) 2 count) ⌝ }
+fn check_fields(layout: Layout, n: u32, fields: &[u8], count: usize) -> Answer
+    requires { ⌜ (Sized layout) × (count ≤ 353) ⌝ }
+    ensures { λ r. ⌜ r ≡ answerOf (checkFields layout n (now (fields .entry)) 2 count) ⌝ }
 {
     let mut t = fields;
     let mut k: usize = 2;
     let end = 2 + count;
     while k < end {
         let m = text::field_length(t);
-        if !field_fine(a, k, &t[..m]) {
+        if !field_fine(layout, k, &t[..m]) {
             return Answer::No(model::refused(14, n, k as u32));
         }
         let taken = text::with_comma(t, m);
@@ -176,20 +181,20 @@ pub fn check_line(layout: Layout, n: u32, line: &[u8]) -> Answer
         return Answer::No(model::refused(14, n, 0));
     }
     match check_number(n, line) {
-        Answer::Yes => check_fields(a, n, text::after_fields(line, 1), 1 + a + d),
+        Answer::Yes => check_fields(layout, n, text::after_fields(line, 1), 1 + a + d),
         Answer::No(refusal) => Answer::No(refusal),
     }
 }
 
 // The samples of the fields fill the slice.
-fn read_samples(fields: &[u8], d: &mut [i32])
-    ensures { λ _. ⌜ now (d .exit) ≡ tab (fieldSample (now (fields .entry))) (length (now (d .entry))) ⌝ }
+fn read_samples(layout: Layout, fields: &[u8], d: &mut [i32])
+    ensures { λ _. ⌜ now (d .exit) ≡ tab (fieldSample layout (now (fields .entry))) (length (now (d .entry))) ⌝ }
 {
     let mut t = fields;
     let mut i = 0;
     while i < d.len() {
         let m = text::field_length(t);
-        d[i] = sample_in(&t[..m]);
+        d[i] = sample_in(layout, &t[..m]);
         let taken = text::with_comma(t, m);
         t = &t[taken..];
         i += 1;
@@ -211,13 +216,14 @@ fn read_statuses(fields: &[u8], d: &mut [bool])
     }
 }
 
-// The a samples of the fields, and zeros.
-fn samples_of(fields: &[u8], a: usize) -> [i32; 96]
-    requires { ⌜ a ≤ 96 ⌝ }
-    ensures { λ r. ⌜ r ≡ padded (fieldSample (now (fields .entry))) a 96 (pos 0) ⌝ }
+// The A samples of the fields, and zeros.
+fn samples_of(layout: Layout, fields: &[u8]) -> [i32; 96]
+    requires { ⌜ Sized layout ⌝ }
+    ensures { λ r. ⌜ r ≡ padded (fieldSample layout (now (fields .entry))) (layout .analogs) 96 (pos 0) ⌝ }
 {
+    let a = layout.analogs as usize;
     let mut out = [0i32; 96];
-    read_samples(fields, &mut out[..a]);
+    read_samples(layout, fields, &mut out[..a]);
     out
 }
 
@@ -243,8 +249,7 @@ pub fn line_samples(layout: Layout, line: &[u8]) -> [i32; 96]
     requires { ⌜ Sized layout ⌝ }
     ensures { λ r. ⌜ r ≡ rowOf layout (now (line .entry)) .samples ⌝ }
 {
-    let a = layout.analogs as usize;
-    samples_of(text::after_fields(line, 2), a)
+    samples_of(layout, text::after_fields(line, 2))
 }
 
 // The row that a line says.

@@ -3,6 +3,7 @@
 --     count-clean, whole-clean, fine-clean      what reads as a number, and a field that is fine, is so
 --     status-fine                               a status that is read where it stands is fine there
 --     status-byte                               the byte of a status, as an order
+--     empty-there                               an empty field is a sample
 --     next-time, next-sample, next-status       so it is the next field
 --     passed-on                                 one field more is passed
 --     passed-status, passed-four                so are one status more, and four
@@ -10,7 +11,7 @@
 -- Assumes nothing.
 use mathlib.Core.Path.{_≡_, refl, sym, _∙_}
 use mathlib.Core.Bool.{Bool, true}
-use mathlib.Core.Logic.{⊎-elim}
+use mathlib.Core.Logic.{inl, inr, ⊎-elim}
 use mathlib.Core.List.{List, [], _∷_, _++_}
 use Prim.Native.Nat.{ℕ, zero, suc, _+_, _-_, _*_, _≤_, _<_}
 use native.Mathlib.Nat.{add-zero, zero-add, sub-zero}
@@ -40,10 +41,11 @@ use Rattle.numerals.specs.Inner.{CountThere}
 use Rattle.numerals.proofs.CountLaws.{digit-bounds}
 use Rattle.numerals.proofs.WholeLaws.{from-count, in-length}
 use Rattle.model.specs.declared.Layout.{Layout}
+use Rattle.model.specs.Samples.{missing}
 use Rattle.ascii_row.specs.Fields.{isStatus}
 use Rattle.ascii_row.specs.Rows.{fieldsOf, fieldFine, checkFields, checkNumber, checkLine}
 use Rattle.ascii_walk.specs.Inner.{FieldThere, Next, TimeThere, SampleThere, StatusThere, FourThere, Passed, RowThere}
-use Rattle.ascii_row.proofs.FieldLaws.{time-read, sample-read}
+use Rattle.ascii_row.proofs.FieldLaws.{SampleTold, time-read, sample-read, sample-fine}
 use Rattle.ascii_row.proofs.LineLaws.{of-time, of-sample, of-status}
 
 pub record Clean (f : List ℕ) : Type 0 where
@@ -114,11 +116,16 @@ status-clean (b ∷ []) e =
     (λ t. let q = eqb-true b 49 (rw t at e) in more b [] (omega arith) (omega arith) (λ r. omega arith) none)
 status-clean (b ∷ c ∷ f) e = record { plain = cc; bytes = cc }
 
-pub fine-clean : (a k : ℕ) (f : List ℕ) → fieldFine a k f ≡ true → Clean f
+-- a sample that is missing is no character
+sample-clean : (l : Layout) (f : List ℕ) (z : ℤ) → SampleTold l f z → Clean f
+sample-clean l f z (inl (m, e)) = rw e none
+sample-clean l f z (inr (e, h)) = whole-clean f z e
+
+pub fine-clean : (l : Layout) (k : ℕ) (f : List ℕ) → fieldFine l k f ≡ true → Clean f
 unfolding fieldFine
-fine-clean a k f e =
+fine-clean l k f e =
     on-test (eqb k 2) (λ t. count-clean 1 13 f _ (time-read f (rw t at e))) (λ t.
-    on-test (leb k (2 + a)) (λ u. whole-clean f _ (sample-read f (rw (t, u) at e))) (λ u. status-clean f (rw (t, u) at e)))
+    on-test (leb k (2 + l .analogs)) (λ u. sample-clean l f _ (sample-read l f (rw (t, u) at e))) (λ u. status-clean f (rw (t, u) at e)))
 
 pub status-fine : (s : List ℕ) (i : ℕ) → i + 2 < length s → isStatus (part (i + 1) (i + 2) s) ≡ isStatus (getD s (i + 1) 0 ∷ [])
 status-fine s i w =
@@ -136,26 +143,35 @@ status-byte b h =
     (λ t. let k = leb-false b 49 t in rw (t, ne-eqb b 48 (λ e. omega arith), ne-eqb b 49 (λ e. omega arith))))
     (lt-or-ge b 49)
 
+-- an empty sample, which takes its comma alone
+pub empty-there : (l : Layout) (s : List ℕ) (i j : ℕ) → getD s i 0 ≡ 44 → j ≡ i + 1 → j < length s → SampleThere l s i j
+empty-there l s i j c e w = record {
+  comma = c;
+  past = omega arith;
+  within = w;
+  fine = rw (e, part-none (i + 1) s) (sample-fine l [] missing (inl (refl, refl)));
+}
+
 -- a field of which one test holds, where another says the same of it
 as-field : (t u : List ℕ → Bool) (s : List ℕ) (i j : ℕ) → u (part (i + 1) j s) ≡ t (part (i + 1) j s) → FieldThere t s i j → FieldThere u s i j
 as-field t u s i j e f = record { comma = f .comma; past = f .past; within = f .within; fine = e ∙ f .fine }
 
-module _ (a : ℕ) (s : List ℕ) (i j : ℕ) where
-  pub next-time : TimeThere s i j → Next a s 2 i j
-  next-time = as-field _ _ s i j (of-time a _)
+module _ (l : Layout) (s : List ℕ) (i j : ℕ) where
+  pub next-time : TimeThere s i j → Next l s 2 i j
+  next-time = as-field _ _ s i j (of-time l _)
 
-  pub next-sample : (k : ℕ) → k < a → SampleThere s i j → Next a s (2 + k + 1) i j
-  next-sample k h = let q : 2 + k + 1 ≡ 3 + k = omega arith in as-field _ _ s i j (rw q (of-sample a _ k h))
+  pub next-sample : (k : ℕ) → k < l .analogs → SampleThere l s i j → Next l s (2 + k + 1) i j
+  next-sample k h = let q : 2 + k + 1 ≡ 3 + k = omega arith in as-field _ _ s i j (rw q (of-sample l _ k h))
 
-  pub next-status : (k : ℕ) → FieldThere isStatus s i j → Next a s (2 + a + k + 1) i j
-  next-status k = let q : 2 + a + k + 1 ≡ 3 + a + k = omega arith in as-field _ _ s i j (rw q (of-status a _ k))
+  pub next-status : (k : ℕ) → FieldThere isStatus s i j → Next l s (2 + l .analogs + k + 1) i j
+  next-status k = let q : 2 + l .analogs + k + 1 ≡ 3 + l .analogs + k = omega arith in as-field _ _ s i j (rw q (of-status l _ k))
 
 -- y follows field k on its line: m more fields, each after a comma and fine
-record Tail (a n k m : ℕ) (y : List ℕ) : Type 0 where
+record Tail (l : Layout) (n k m : ℕ) (y : List ℕ) : Type 0 where
   apart : fieldLength y ≡ 0
   count : commas y ≡ m
   bytes : lineBytes y ≡ true
-  fine : checkFields a n (drop 1 y) (k + 1) m ≡ says tt
+  fine : checkFields l n (drop 1 y) (k + 1) m ≡ says tt
 
 -- a field before such a rest is the first
 module _ (f y : List ℕ) (c : Clean f) (h : fieldLength y ≡ 0) where
@@ -165,31 +181,31 @@ module _ (f y : List ℕ) (c : Clean f) (h : fieldLength y ≡ 0) where
   rest-of : drop (fieldLength (f ++ y) + 1) (f ++ y) ≡ drop 1 y
   rest-of = rw (length-before f y (c .plain), h, add-zero, drop-append-add)
 
-tail-none : (a n k : ℕ) → Tail a n k 0 []
+tail-none : (l : Layout) (n k : ℕ) → Tail l n k 0 []
 unfolding checkFields
-tail-none a n k = record { apart = refl; count = refl; bytes = refl; fine = refl }
+tail-none l n k = record { apart = refl; count = refl; bytes = refl; fine = refl }
 
-tail-next : (a n k m : ℕ) (f y : List ℕ) → fieldFine a (k + 1) f ≡ true → Tail a n (k + 1) m y → Tail a n k (suc m) (44 ∷ (f ++ y))
+tail-next : (l : Layout) (n k m : ℕ) (f y : List ℕ) → fieldFine l (k + 1) f ≡ true → Tail l n (k + 1) m y → Tail l n k (suc m) (44 ∷ (f ++ y))
 unfolding checkFields
-tail-next a n k m f y e t =
-    let c = fine-clean a (k + 1) f e in record {
+tail-next l n k m f y e t =
+    let c = fine-clean l (k + 1) f e in record {
       apart = refl;
       count = rw (commas-append f y, c .plain, t .count) (omega arith);
       bytes = every-append _ f y (c .bytes) (t .bytes);
       fine = rw (first-of f y c (t .apart), e, rest-of f y c (t .apart)) (t .fine);
     }
 
-tail-passed : (a n : ℕ) (s : List ℕ) (e k i m j q : ℕ) → Passed a s k i m j → j ≤ e → e ≤ length s → Tail a n (k + m) q (part j e s)
-    → (i ≤ e) × Tail a n k (m + q) (part i e s)
-tail-passed a n s e k i zero j q p h w t = rw (p, zero-add q) (h, rw (add-zero k) at t)
-tail-passed a n s e k i (suc m) j q (x, p, d) h w t =
+tail-passed : (l : Layout) (n : ℕ) (s : List ℕ) (e k i m j q : ℕ) → Passed l s k i m j → j ≤ e → e ≤ length s → Tail l n (k + m) q (part j e s)
+    → (i ≤ e) × Tail l n k (m + q) (part i e s)
+tail-passed l n s e k i zero j q p h w t = rw (p, zero-add q) (h, rw (add-zero k) at t)
+tail-passed l n s e k i (suc m) j q (x, p, d) h w t =
     let r : part x e s ≡ 44 ∷ (part (x + 1) j s ++ part j e s)
     = part-here 0 x e s (omega (arith, d .past)) w ∙ rw (d .comma, ← parts-join (x + 1) j e s (omega (arith, d .past)) h) in
     let z : k + suc m ≡ k + m + 1 = omega arith in
     let y : m + suc q ≡ suc m + q = omega arith in
-    rw y at (tail-passed a n s e k i m x (suc q) p (omega (arith, d .past)) w (rw r (tail-next a n (k + m) q (part (x + 1) j s) (part j e s) (d .fine) (rw z at t))))
+    rw y at (tail-passed l n s e k i m x (suc q) p (omega (arith, d .past)) w (rw r (tail-next l n (k + m) q (part (x + 1) j s) (part j e s) (d .fine) (rw z at t))))
 
-line-there : (l : Layout) (n : ℕ) (f y : List ℕ) → readCount 1 10 f ≡ count.Is n → Tail (l .analogs) n 1 (1 + l .analogs + l .statuses) y
+line-there : (l : Layout) (n : ℕ) (f y : List ℕ) → readCount 1 10 f ≡ count.Is n → Tail l n 1 (1 + l .analogs + l .statuses) y
     → checkLine l n (f ++ y) ≡ says tt
 unfolding checkLine checkNumber fieldCount afterFields
 line-there l n f y e t =
@@ -200,17 +216,17 @@ line-there l n f y e t =
 ended-there : (s : List ℕ) (e : ℕ) → e + 1 < length s → getD s e 0 ≡ 13 → getD s (e + 1) 0 ≡ 10 → take e s ++ 13 ∷ 10 ∷ drop (e + 1 + 1) s ≡ s
 ended-there s e w cr lf = rw (← cr, ← lf, ← here s (e + 1) w, ← here s e (omega arith), take-append-drop)
 
-pub passed-on : (a : ℕ) (s : List ℕ) (k i m x j : ℕ) → Passed a s k i m x → Next a s (k + m + 1) x j → Passed a s k i (m + 1) j
-passed-on a s k i m x j p d = rw add-one (x, p, d)
+pub passed-on : (l : Layout) (s : List ℕ) (k i m x j : ℕ) → Passed l s k i m x → Next l s (k + m + 1) x j → Passed l s k i (m + 1) j
+passed-on l s k i m x j p d = rw add-one (x, p, d)
 
 -- statuses take two bytes each
-module _ (a : ℕ) (s : List ℕ) (at : ℕ) where
-  pub passed-status : (k : ℕ) → Passed a s (2 + a) at k (at + 2 * k) → StatusThere s (at + 2 * k) → Passed a s (2 + a) at (k + 1) (at + 2 * (k + 1))
+module _ (l : Layout) (s : List ℕ) (at : ℕ) where
+  pub passed-status : (k : ℕ) → Passed l s (2 + l .analogs) at k (at + 2 * k) → StatusThere s (at + 2 * k) → Passed l s (2 + l .analogs) at (k + 1) (at + 2 * (k + 1))
   passed-status k p t =
       let q : at + 2 * (k + 1) ≡ at + 2 * k + 2 = omega arith in
-      rw q (passed-on a s (2 + a) at k (at + 2 * k) (at + 2 * k + 2) p (next-status a s (at + 2 * k) (at + 2 * k + 2) k t))
+      rw q (passed-on l s (2 + l .analogs) at k (at + 2 * k) (at + 2 * k + 2) p (next-status l s (at + 2 * k) (at + 2 * k + 2) k t))
 
-  pub passed-four : (k : ℕ) → Passed a s (2 + a) at k (at + 2 * k) → FourThere s (at + 2 * k) → Passed a s (2 + a) at (k + 4) (at + 2 * (k + 4))
+  pub passed-four : (k : ℕ) → Passed l s (2 + l .analogs) at k (at + 2 * k) → FourThere s (at + 2 * k) → Passed l s (2 + l .analogs) at (k + 4) (at + 2 * (k + 4))
   passed-four k p t =
       let e : at + 2 * k + 2 ≡ at + 2 * (k + 1) = omega arith in
       let f : at + 2 * k + 4 ≡ at + 2 * (k + 1 + 1) = omega arith in
@@ -221,16 +237,16 @@ module _ (a : ℕ) (s : List ℕ) (at : ℕ) where
       let z = passed-status (k + 1 + 1) y (rw f at (t .three)) in
       rw h at (passed-status (k + 1 + 1 + 1) z (rw g at (t .four)))
 
-pub row-walked : (l : Layout) (n : ℕ) (s : List ℕ) (b t r e : ℕ) → CountThere 10 s 0 b n → Next (l .analogs) s 2 b t
-    → Passed (l .analogs) s 2 t (l .analogs) r → Passed (l .analogs) s (2 + l .analogs) r (l .statuses) e
+pub row-walked : (l : Layout) (n : ℕ) (s : List ℕ) (b t r e : ℕ) → CountThere 10 s 0 b n → Next l s 2 b t
+    → Passed l s 2 t (l .analogs) r → Passed l s (2 + l .analogs) r (l .statuses) e
     → e + 1 < length s → e ≤ 1880 → getD s e 0 ≡ 13 → getD s (e + 1) 0 ≡ 10 → RowThere l n s (e + 2)
 row-walked l n s b t r e number time samples statuses w m cr lf =
     let a = l .analogs in
     let k : e ≤ length s = omega arith in
-    let u : Tail a n (2 + a + l .statuses) 0 (part e e s) = rw (part-none e s) (tail-none a n (2 + a + l .statuses)) in
-    let v = tail-passed a n s e (2 + a) r (l .statuses) e 0 statuses (omega arith) k u in
-    let x = tail-passed a n s e 2 t a r (l .statuses + 0) samples (v .0) k (v .1) in
-    let y = tail-passed a n s e 1 b 1 t (a + (l .statuses + 0)) (b, refl, time) (x .0) k (x .1) in
+    let u : Tail l n (2 + a + l .statuses) 0 (part e e s) = rw (part-none e s) (tail-none l n (2 + a + l .statuses)) in
+    let v = tail-passed l n s e (2 + a) r (l .statuses) e 0 statuses (omega arith) k u in
+    let x = tail-passed l n s e 2 t a r (l .statuses + 0) samples (v .0) k (v .1) in
+    let y = tail-passed l n s e 1 b 1 t (a + (l .statuses + 0)) (b, refl, time) (x .0) k (x .1) in
     let q : 1 + (a + (l .statuses + 0)) ≡ 1 + a + l .statuses = omega arith in
     let line : take e s ≡ part 0 b s ++ part b e s = sym (rw (sub-zero e) at (parts-join 0 b e s (omega arith) (y .0))) in
     let bytes : lineBytes (take e s) ≡ true

@@ -25,16 +25,16 @@ abbrev pub TimeThere : List ℕ → ℕ → ℕ → Type 0
 TimeThere s i j = FieldThere (λ f. isCount (readTimestamp f)) s i j
 
 -- the field is a sample
-abbrev pub SampleThere : List ℕ → ℕ → ℕ → Type 0
-SampleThere s i j = FieldThere (λ f. isWhole (readSample f)) s i j
+abbrev pub SampleThere : Layout → List ℕ → ℕ → ℕ → Type 0
+SampleThere l s i j = FieldThere (λ f. isWhole (readSample l f)) s i j
 
 -- the field is a status, which takes two bytes with its comma
 abbrev pub StatusThere : List ℕ → ℕ → Type 0
 StatusThere s i = FieldThere isStatus s i (i + 2)
 
--- the field is what field k of a row with a samples must be
-abbrev pub Next : ℕ → List ℕ → ℕ → ℕ → ℕ → Type 0
-Next a s k i j = FieldThere (fieldFine a k) s i j
+-- the field is what field k of a row must be
+abbrev pub Next : Layout → List ℕ → ℕ → ℕ → ℕ → Type 0
+Next l s k i j = FieldThere (fieldFine l k) s i j
 
 -- four statuses, each after a comma, from place i on
 pub record FourThere (s : List ℕ) (i : ℕ) : Type 0 where
@@ -52,9 +52,9 @@ pub record LineEnd (s : List ℕ) (e taken : ℕ) : Type 0 where
   pub lf : getD s (e + 1) 0 ≡ 10
 
 -- from place i, where field k ends, to place j m more fields are passed
-abbrev pub Passed : ℕ → List ℕ → ℕ → ℕ → ℕ → ℕ → Type 0
-Passed a s k i zero j = i ≡ j
-Passed a s k i (suc m) j = (x : ℕ) × Passed a s k i m x × Next a s (k + m + 1) x j
+abbrev pub Passed : Layout → List ℕ → ℕ → ℕ → ℕ → ℕ → Type 0
+Passed l s k i zero j = i ≡ j
+Passed l s k i (suc m) j = (x : ℕ) × Passed l s k i m x × Next l s (k + m + 1) x j
 
 -- row n takes so many bytes of s, its CR LF included, and is fine
 pub record RowThere (l : Layout) (n : ℕ) (s : List ℕ) (taken : ℕ) : Type 0 where

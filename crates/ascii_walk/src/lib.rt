@@ -1,15 +1,15 @@
 // A row of text, read through in one walk that finds where each field ends as it reads it.
 // A function claims something only where it answers more than 0, or true; where it does not, crate ascii_row says why.
 use ascii_row::LATEST;
-use model::Kind;
 use model::Layout;
 ghost use mathlib.Core.Path.{_≡_};
 ghost use mathlib.Core.Bool.{true, _&&_};
 ghost use mathlib.Core.List.{[], _∷_};
-ghost use Prim.Native.Nat.{ℕ, _+_, _*_, _≤_, _<_};
+ghost use Prim.Native.Nat.{_+_, _*_, _≤_, _<_};
 ghost use lib.Dec.{eqb};
 ghost use lib.ListN.{length};
 ghost use Rattle.numerals.specs.Inner.{CountThere};
+ghost use Rattle.model.specs.declared.Layout.{Layout};
 ghost use Rattle.model.specs.Layouts.{Sized};
 ghost use Rattle.ascii_row.specs.Fields.{isStatus};
 ghost use Rattle.ascii_walk.specs.Inner.{TimeThere, SampleThere, StatusThere, FourThere, Passed, LineEnd, RowThere};
@@ -40,31 +40,45 @@ fn time_end(s: &[u8], at: usize) -> usize
     time.end
 }
 
-// Where the sample after a comma ends; 0 where none is read.
-fn sample_end(s: &[u8], at: usize) -> usize
+// Where an empty field ends that starts at a place; 0 where s ends there.
+fn empty_end(s: &[u8], at: usize) -> usize
+    ensures { λ r. ⌜ (1 ≤ r → (r ≡ at) × (at < length (now (s .entry)))) ⌝ }
+{
+    if s.len() <= at {
+        return 0;
+    }
+    at
+}
+
+// Where the sample after a comma ends; 0 where none is read. Where no number is read the field is taken as empty: whoever comes next looks at what stands there.
+fn sample_end(layout: Layout, s: &[u8], at: usize) -> usize
     requires { ⌜ at < length (now s) ⌝ }
-    ensures { λ r. ⌜ (1 ≤ r → SampleThere (now (s .entry)) at r) ⌝ }
+    ensures { λ r. ⌜ (1 ≤ r → SampleThere layout (now (s .entry)) at r) ⌝ }
 {
     if s[at] != 44 {
         return 0;
     }
-    let kind = Kind::Ascii;
-    let sample = numerals::whole_at(s, at + 1);
-    if !kind.holds(sample.value) {
+    let first = at + 1;
+    let sample = numerals::whole_at(s, first);
+    if sample.end < 1 {
+        return empty_end(s, first);
+    }
+    if !layout.holds(sample.value) {
         return 0;
     }
     sample.end
 }
 
-// Where a samples, each after a comma, end; 0 where one is not read.
-fn samples_end(s: &[u8], at: usize, a: usize) -> usize
-    requires { ⌜ (at < length (now s)) × (a ≤ 96) ⌝ }
-    ensures { λ r. ⌜ (1 ≤ r → (r < length (now (s .entry))) × Passed a (now (s .entry)) 2 at a r) ⌝ }
+// Where the samples, each after a comma, end; 0 where one is not read.
+fn samples_end(layout: Layout, s: &[u8], at: usize) -> usize
+    requires { ⌜ (Sized layout) × (at < length (now s)) ⌝ }
+    ensures { λ r. ⌜ (1 ≤ r → (r < length (now (s .entry))) × Passed layout (now (s .entry)) 2 at (layout .analogs) r) ⌝ }
 {
+    let a = layout.analogs as usize;
     let mut i = at;
     let mut k: usize = 0;
     while k < a {
-        let e = sample_end(s, i);
+        let e = sample_end(layout, s, i);
         if e < 1 {
             return 0;
         }
@@ -110,7 +124,7 @@ fn four_there(s: &[u8], i: usize) -> bool
 // How many of d statuses, each after a comma, are passed four at a time.
 fn pass_fours(s: &[u8], at: usize, d: usize) -> usize
     requires { ⌜ (at + 2 * d < length (now s)) × (d ≤ 256) ⌝ }
-    ensures { λ r. ⌜ (r ≤ d) × ((a : ℕ) → Passed a (now (s .entry)) (2 + a) at r (at + 2 * r)) ⌝ }
+    ensures { λ r. ⌜ (r ≤ d) × ((l : Layout) → Passed l (now (s .entry)) (2 + l .analogs) at r (at + 2 * r)) ⌝ }
 {
     let mut k: usize = 0;
     while k + 4 <= d {
@@ -125,7 +139,7 @@ fn pass_fours(s: &[u8], at: usize, d: usize) -> usize
 // Where d statuses, each after a comma, end; 0 where one is not read.
 fn statuses_end(s: &[u8], at: usize, d: usize) -> usize
     requires { ⌜ (at < length (now s)) × (d ≤ 256) ⌝ }
-    ensures { λ r. ⌜ (1 ≤ r → (r < length (now (s .entry))) × ((a : ℕ) → Passed a (now (s .entry)) (2 + a) at d r)) ⌝ }
+    ensures { λ r. ⌜ (1 ≤ r → (r < length (now (s .entry))) × ((l : Layout) → Passed l (now (s .entry)) (2 + l .analogs) at d r)) ⌝ }
 {
     if s.len() - at <= 2 * d {
         return 0;
@@ -166,7 +180,6 @@ pub fn row_end(layout: Layout, n: u32, s: &[u8]) -> usize
     requires { ⌜ Sized layout ⌝ }
     ensures { λ r. ⌜ (1 ≤ r → RowThere layout n (now (s .entry)) r) ⌝ }
 {
-    let a = layout.analogs as usize;
     let d = layout.statuses as usize;
     let number = number_end(n, s);
     if number < 1 {
@@ -176,7 +189,7 @@ pub fn row_end(layout: Layout, n: u32, s: &[u8]) -> usize
     if time < 1 {
         return 0;
     }
-    let samples = samples_end(s, time, a);
+    let samples = samples_end(layout, s, time);
     if samples < 1 {
         return 0;
     }

@@ -7,9 +7,6 @@ use borrow.Author.Needs.{needs}
 use Rattle.ascii_plain.proofs.length_by.Statement.{statement}
 use Rattle.ascii_plain.proofs.length_by.Tie as tie
 
-cast-a : tie.Need-cast-a
-cast-a c = search needs
-
 cast-count : tie.Need-cast-count
 cast-count c = search needs
 
@@ -29,9 +26,9 @@ add-result-2 : tie.Need-add-result-2
 add-result-2 c = search needs
     -- the parts together
 
-short : (c : tie.After-samples-length) → c .before .head-length .result + (c .samples-length .result + (2 * c .before .before .before .before .args .layout .statuses + 2)) ≤ 2048
+short : (c : tie.After-samples-length) → c .before .head-length .result + (c .samples-length .result + (2 * c .before .before .before .args .layout .statuses + 2)) ≤ 2048
 short c =
-    let start = c .before .before .before .before in
+    let start = c .before .before .before in
     let s = start .pre .0 in
     let args = start .args in
     omega (arith, c .samples-length .ensures .1, c .before .head-length .ensures, decimal-short (args .n) (omega arith), decimal-short (args .time) (omega arith))
@@ -47,7 +44,6 @@ pub length-by-spec : {M : Type 1} → statement M
 length-by-spec =
     tie.close
     (tie.spec
-    cast-a
     cast-count
     head-length-requires
     samples-length-requires

@@ -9,6 +9,9 @@ use Rattle.ground.proofs.Parts.{halves, half-length}
 use Rattle.ascii_plain.proofs.put_channels.Statement.{statement}
 use Rattle.ascii_plain.proofs.put_channels.Tie as tie
 
+cast-count : tie.Need-cast-count
+cast-count c = search needs
+
 mul-mid : tie.Need-mul-mid
 mul-mid c = search needs
 
@@ -19,14 +22,14 @@ slice-relend-prefix-put-samples : tie.Need-slice-relend-prefix-put-samples
 slice-relend-prefix-put-samples c = search needs
 
 -- the samples have what the statuses leave
-front : (c : tie.Start) → length (take (length (c .args .d .now) - 2 * c .args .count) (c .args .d .now)) ≡ length (c .args .d .now) - 2 * c .args .count
-front c = length-take-le (length (c .args .d .now) - 2 * c .args .count) (c .args .d .now) (omega arith)
+front : (c : tie.Start) → length (take (length (c .args .d .now) - 2 * c .args .layout .statuses) (c .args .d .now)) ≡ length (c .args .d .now) - 2 * c .args .layout .statuses
+front c = length-take-le (length (c .args .d .now) - 2 * c .args .layout .statuses) (c .args .d .now) (omega arith)
 
 slice-aggregate-put-samples : tie.Need-slice-aggregate-put-samples
-slice-aggregate-put-samples c = sym (front (c .before .before .before))
+slice-aggregate-put-samples c = sym (front (c .before .before .before .before))
 
 put-samples-requires : tie.Need-put-samples-requires
-put-samples-requires c κs = (c .before .before .before .pre .0, front (c .before .before .before) ∙ omega arith)
+put-samples-requires c κs = (c .before .before .before .before .pre .0 .0, front (c .before .before .before .before) ∙ omega arith)
 
 sub-put-statuses : tie.Need-sub-put-statuses
 sub-put-statuses c = search needs
@@ -45,11 +48,11 @@ same-length c = search needs
 
 returns : tie.Need-returns
 returns c =
-    let s = c .before .before .before .before .before .before .before .before .before .before in
+    let s = c .before .before .before .before .before .before .before .before .before .before .before in
     let d = s .args .d .now in
     let f = c .before .before .before .before .before .before .put-samples in
     let g = c .before .before .put-statuses in
-    let m = length d - 2 * s .args .count in
+    let m = length d - 2 * s .args .layout .statuses in
     let p = f .last .1 .1 .0 in
     let q = g .last .1 .1 .0 in
     let lp : length p ≡ m = f .kept .1 .1 .0 ∙ front s in
@@ -60,6 +63,7 @@ pub put-channels-spec : {M : Type 1} → statement M
 put-channels-spec =
     tie.close
     (tie.spec
+    cast-count
     mul-mid
     sub-mid
     slice-relend-prefix-put-samples

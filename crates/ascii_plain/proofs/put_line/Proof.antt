@@ -12,12 +12,6 @@ use Rattle.ascii_plain.proofs.LengthLaws.{length-line}
 use Rattle.ascii_plain.proofs.put_line.Statement.{statement}
 use Rattle.ascii_plain.proofs.put_line.Tie as tie
 
-cast-a : tie.Need-cast-a
-cast-a c = search needs
-
-cast-count : tie.Need-cast-count
-cast-count c = search needs
-
 head-length-requires : tie.Need-head-length-requires
 head-length-requires c κs = search needs
 
@@ -30,11 +24,11 @@ long c = search needs
 
 -- the head ends within the slice, and the channels where it does
 room : (c : tie.After-head-length)
-    → let s = c .before .before .before .before .before .before .args in c .head-length .result + (samplesLength (s .row .samples) (s .layout .analogs) + 2 * s .layout .statuses) ≡ length (s .d .now)
-room c = let s = c .before .before .before .before .before .before in rw (c .head-length .ensures) (sym (s .pre .1 ∙ length-line (s .args .layout) (s .args .n) (s .args .row)))
+    → let s = c .before .before .before .before .args in c .head-length .result + (samplesLength (s .layout) (s .row .samples) (s .layout .analogs) + 2 * s .layout .statuses) ≡ length (s .d .now)
+room c = let s = c .before .before .before .before in rw (c .head-length .ensures) (sym (s .pre .1 ∙ length-line (s .args .layout) (s .args .n) (s .args .row)))
 
-front : (c : tie.After-head-length) → length (take (c .head-length .result) (c .before .before .before .before .before .before .args .d .now)) ≡ c .head-length .result
-front c = length-take-le (c .head-length .result) (c .before .before .before .before .before .before .args .d .now) (omega (arith, room c))
+front : (c : tie.After-head-length) → length (take (c .head-length .result) (c .before .before .before .before .args .d .now)) ≡ c .head-length .result
+front c = length-take-le (c .head-length .result) (c .before .before .before .before .args .d .now) (omega (arith, room c))
 
 slice-relend-prefix-put-head : tie.Need-slice-relend-prefix-put-head
 slice-relend-prefix-put-head c = omega (arith, room c)
@@ -62,7 +56,7 @@ part-put-channels-end c = search needs
 
 put-channels-requires : tie.Need-put-channels-requires
 put-channels-requires c κs =
-    let s = c .before .before .before .before .before .before .before .before .before .before .before .before .before in
+    let s = c .before .before .before .before .before .before .before .before .before .before .before in
     let f = c .before .before .before .before .before .put-head in
     let k = c .before .before .before .before .before .before .before .head-length .result in
     let h = c .before .before .before .before .before .before .before in
@@ -70,7 +64,7 @@ put-channels-requires c κs =
     let lp = f .kept .1 .1 .0 ∙ front h in
     let w = wide s in
     let v = long s in
-    (omega arith, omega arith, half-length (s .args .d .now) (f .last .1 .1 .0) k (length (s .args .d .now)) lp (omega arith) (omega arith) ∙ omega arith)
+    ((omega (arith, s .pre .0 .analogs), omega (arith, s .pre .0 .statuses)), half-length (s .args .d .now) (f .last .1 .1 .0) k (length (s .args .d .now)) lp (omega arith) (omega arith) ∙ omega arith)
 
 same-length : tie.Need-same-length
 same-length c = search needs
@@ -78,7 +72,7 @@ same-length c = search needs
 returns : tie.Need-returns
 unfolding lineOf
 returns c =
-    let s = c .before .before .before .before .before .before .before .before .before .before .before .before .before .before .before .before in
+    let s = c .before .before .before .before .before .before .before .before .before .before .before .before .before .before in
     let d = s .args .d .now in
     let f = c .before .before .before .before .before .before .before .before .put-head in
     let g = c .before .before .put-channels in
@@ -86,17 +80,15 @@ returns c =
     let h = c .before .before .before .before .before .before .before .before .before .before in
     let r = room h in
     let p = f .last .1 .1 .0 in
-    let q = g .last .1 .1 .1 .1 .0 in
+    let q = g .last .1 .1 .1 .0 in
     let lp : length p ≡ k = f .kept .1 .1 .0 ∙ front h in
-    let lq : length q ≡ length d - k = g .kept .1 .1 .1 .1 .0 ∙ half-length d p k (length d) lp (omega arith) (omega arith) in
+    let lq : length q ≡ length d - k = g .kept .1 .1 .1 .0 ∙ half-length d p k (length d) lp (omega arith) (omega arith) in
     halves d p q k (length d) lp (omega arith) refl ∙ rw (f .ensures, g .ensures)
 
 pub put-line-spec : {M : Type 1} → statement M
 put-line-spec =
     tie.close
     (tie.spec
-    cast-a
-    cast-count
     head-length-requires
     slice-relend-prefix-put-head
     slice-aggregate-put-head

@@ -1,19 +1,49 @@
--- `ascii_plain::put_sample` meets its contract: the comma is the first character, and the sample fills the rest.
-use mathlib.Core.Path.{_≡_, ap, _∙_}
+-- `ascii_plain::put_sample` meets its contract: the comma is the first character, and the sample fills the rest; of a missing one there is none.
+use mathlib.Core.Path.{_≡_, refl, sym, ap, _∙_}
+use mathlib.Core.List.{List, [], _∷_}
+use Prim.Native.Nat.{ℕ}
 use native.Mathlib.Omega.{arith}
-use lib.ListN.{length-set, length-drop}
-use mir.Syntax.{w64}
+use lib.ListN.{length, set, length-set, length-drop}
+use mir.Syntax.{w32, w64}
 use mir.Val.{toZ, ofZ}
+use mir.ValLaws.{toZ-ofZ}
 use borrow.Author.Needs.{needs}
 use Rattle.ground.proofs.Walk.{rest}
 use Rattle.ground.proofs.Parts.{put-first}
 use Rattle.words.proofs.MachineLaws.{widened-back}
+use Rattle.model.specs.Samples.{isMissing}
 use Rattle.numerals.specs.Decimals.{plain}
+use Rattle.ascii_plain.specs.Rows.{sampleChars}
+use Rattle.ascii_plain.proofs.LengthLaws.{chars-missing, chars-there}
 use Rattle.ascii_plain.proofs.put_sample.Statement.{statement}
 use Rattle.ascii_plain.proofs.put_sample.Tie as tie
 
 slice-write-d : tie.Need-slice-write-d
 slice-write-d c = search needs
+
+is-missing-requires : tie.Need-is-missing-requires
+is-missing-requires c κs = search needs
+
+tested : (c : tie.After-is-missing) → isMissing (c .before .before .args .z) ≡ c .is-missing .result
+tested c = sym (c .is-missing .ensures ∙ ap isMissing (toZ-ofZ w32 (c .before .before .args .z) (c .before .before .fits .z)))
+
+-- the characters, by the test
+none : (c : tie.Then1) → sampleChars (c .before .before .before .args .layout) (c .before .before .before .args .z) ≡ []
+none c = chars-missing (c .before .before .before .args .layout) (c .before .before .before .args .z) (tested (c .before) ∙ c .if1 .taken)
+
+there : (c : tie.Else1) → sampleChars (c .before .before .before .args .layout) (c .before .before .before .args .z) ≡ plain (c .before .before .before .args .z)
+there c = chars-there (c .before .before .before .args .layout) (c .before .before .before .args .z) (tested (c .before) ∙ c .if1 .left)
+
+put-one : (d : List ℕ) (a : ℕ) → length d ≡ 1 → set d 0 a ≡ a ∷ []
+put-one [] a h = absurd (omega arith)
+put-one (x ∷ []) a h = refl
+put-one (x ∷ y ∷ d) a h = absurd (omega arith)
+
+same-length : tie.Need-same-length
+same-length c = length-set (c .before .before .before .args .d .now) 0 44
+
+returns : tie.Need-returns
+returns c = rw (none c) (put-one (c .before .before .before .args .d .now) 44 (c .before .before .before .pre ∙ rw (none c)))
 
 sub-put-plain : tie.Need-sub-put-plain
 sub-put-plain c = simp length-set (omega arith)
@@ -28,35 +58,34 @@ widened-requires : tie.Need-widened-requires
 widened-requires c κs = search needs
 
 -- the sample, as the machine keeps it
-back : (c : tie.After-widened) → toZ w64 (ofZ w64 (c .widened .result)) ≡ c .before .before .before .args .z
-back c = widened-back (c .before .before .before .args .z) (c .widened .result) (c .before .before .before .fits .z) (c .widened .ensures)
+back : (c : tie.After-widened) → toZ w64 (ofZ w64 (c .widened .result)) ≡ c .before .before .before .before .before .args .z
+back c = widened-back (c .before .before .before .before .before .args .z) (c .widened .result) (c .before .before .before .before .before .fits .z) (c .widened .ensures)
 
 put-plain-requires : tie.Need-put-plain-requires
-put-plain-requires c κs = rw (rest, length-drop, length-set, back c) (omega (arith, c .before .before .before .pre))
+put-plain-requires c κs = rw (rest, length-drop, length-set, back c, ← there (c .before .before)) (omega (arith, c .before .before .before .before .before .pre))
 
 -- what fills the rest
-filled : (c : tie.After-slice-known2) → c .before .before .put-plain .last .0 ≡ plain (c .before .before .before .before .before .before .args .z)
-filled c = c .before .before .put-plain .ensures ∙ ap plain (back (c .before .before .before))
+filled : (c : tie.After-slice-known2) → c .before .before .put-plain .last .0 ≡ sampleChars (c .before .before .before .before .before .before .before .before .args .layout) (c .before .before .before .before .before .before .before .before .args .z)
+filled c = c .before .before .put-plain .ensures ∙ ap plain (back (c .before .before .before)) ∙ sym (there (c .before .before .before .before .before))
 
-same-length : tie.Need-same-length
-same-length c =
-    let start = c .before .before .before .before .before .before in
-    rw (put-first (start .args .d .now) (c .before .before .put-plain .last .0) 44 (omega (arith, start .pre)), filled c) (omega (arith, start .pre))
+same-length-2 : tie.Need-same-length-2
+same-length-2 c = rw (put-first (c .before .before .before .before .before .before .before .before .args .d .now) (c .before .before .put-plain .last .0) 44 (omega (arith, c .before .before .before .before .before .before .before .before .pre)), filled c) (omega (arith, c .before .before .before .before .before .before .before .before .pre))
 
-returns : tie.Need-returns
-returns c =
-    let start = c .before .before .before .before .before .before in
-    put-first (start .args .d .now) (c .before .before .put-plain .last .0) 44 (omega (arith, start .pre)) ∙ rw (filled c)
+returns-2 : tie.Need-returns-2
+returns-2 c = put-first (c .before .before .before .before .before .before .before .before .args .d .now) (c .before .before .put-plain .last .0) 44 (omega (arith, c .before .before .before .before .before .before .before .before .pre)) ∙ rw (filled c)
 
 pub put-sample-spec : {M : Type 1} → statement M
 put-sample-spec =
     tie.close
     (tie.spec
     slice-write-d
+    is-missing-requires
+    same-length
+    returns
     sub-put-plain
     part-put-plain-start
     part-put-plain-end
     widened-requires
     put-plain-requires
-    same-length
-    returns)
+    same-length-2
+    returns-2)

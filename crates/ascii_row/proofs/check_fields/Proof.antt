@@ -15,10 +15,10 @@ use Rattle.ascii_row.proofs.check_fields.Statement.{statement}
 use Rattle.ascii_row.proofs.check_fields.Tie as tie
 
 abbrev Inv-loop : tie.InvT-loop
-Inv-loop a n fields count t₀ k₀ end t k = (length t ≤ length fields) × (2 ≤ k) × (k ≤ end) × (checkFields a n fields 2 count ≡ checkFields a n t k (end - k))
+Inv-loop layout n fields count t₀ k₀ end t k = (length t ≤ length fields) × (2 ≤ k) × (k ≤ end) × (checkFields layout n fields 2 count ≡ checkFields layout n t k (end - k))
 
 abbrev μ-loop : tie.MeasureT-loop
-μ-loop a n fields count t₀ k₀ end t k = end - k
+μ-loop layout n fields count t₀ k₀ end t k = end - k
 
 add-end : tie.Need-add-end Inv-loop μ-loop
 add-end c = search needs
@@ -45,7 +45,7 @@ refused-requires c κs = search needs
     -- what the check of field k found
 
 fine : (c : tie.After-field-fine Inv-loop μ-loop)
-    → let turn = c .before .before .before .before in fieldFine (turn .before .before .args .a) (turn .loop .k) (firstField (turn .loop .t .now)) ≡ c .field-fine .result
+    → let turn = c .before .before .before .before in fieldFine (turn .before .before .args .layout) (turn .loop .k) (firstField (turn .loop .t .now)) ≡ c .field-fine .result
 fine c = sym (c .field-fine .ensures ∙ rw (c .before .before .field-length .ensures))
 
 returns : tie.Need-returns Inv-loop μ-loop

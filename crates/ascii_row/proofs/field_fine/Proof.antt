@@ -5,6 +5,9 @@ use borrow.Author.Needs.{needs}
 use Rattle.ascii_row.proofs.field_fine.Statement.{statement}
 use Rattle.ascii_row.proofs.field_fine.Tie as tie
 
+cast-a : tie.Need-cast-a
+cast-a c = search needs
+
 is-time-requires : tie.Need-is-time-requires
 is-time-requires c κs = search needs
 
@@ -33,6 +36,7 @@ pub field-fine-spec : {M : Type 1} → statement M
 field-fine-spec =
     tie.close
     (tie.spec
+    cast-a
     is-time-requires
     returns
     add-if2

@@ -4,9 +4,6 @@ use borrow.Author.Needs.{needs}
 use Rattle.ascii_row.proofs.line_samples.Statement.{statement}
 use Rattle.ascii_row.proofs.line_samples.Tie as tie
 
-cast-a : tie.Need-cast-a
-cast-a c = search needs
-
 after-fields-requires : tie.Need-after-fields-requires
 after-fields-requires c κs = search needs
 
@@ -18,4 +15,4 @@ unfolding rowOf
 returns c = rw (c .samples-of .ensures, c .before .after-fields .ensures)
 
 pub line-samples-spec : {M : Type 1} → statement M
-line-samples-spec = tie.close (tie.spec cast-a after-fields-requires samples-of-requires returns)
+line-samples-spec = tie.close (tie.spec after-fields-requires samples-of-requires returns)

@@ -19,10 +19,10 @@ use Rattle.ascii_row.proofs.read_samples.Statement.{statement}
 use Rattle.ascii_row.proofs.read_samples.Tie as tie
 
 abbrev Inv-loop : tie.InvT-loop
-Inv-loop fields d₀ t₀ i₀ d t i = (length t ≤ length fields) × (i ≤ length d₀) × (length d ≡ length d₀) × (t ≡ afterFields i fields) × (d ≡ tab (fieldSample fields) i ++ drop i d₀)
+Inv-loop layout fields d₀ t₀ i₀ d t i = (length t ≤ length fields) × (i ≤ length d₀) × (length d ≡ length d₀) × (t ≡ afterFields i fields) × (d ≡ tab (fieldSample layout fields) i ++ drop i d₀)
 
 abbrev μ-loop : tie.MeasureT-loop
-μ-loop fields d₀ t₀ i₀ d t i = length d - i
+μ-loop layout fields d₀ t₀ i₀ d t i = length d - i
 
 loop-holds : tie.Need-loop-holds Inv-loop μ-loop
 loop-holds c = (omega arith, omega arith, refl, sym (after-none (c .before .args .fields .now)), refl)
@@ -36,8 +36,8 @@ slice-aggregate-sample-in c = sym (length-take-le _ _ (rw (c .before .field-leng
 sample-in-requires : tie.Need-sample-in-requires Inv-loop μ-loop
 sample-in-requires c κs = search needs
 
-mul-t7 : tie.Need-mul-t7 Inv-loop μ-loop
-mul-t7 c = search needs
+mul-t8 : tie.Need-mul-t8 Inv-loop μ-loop
+mul-t8 c = search needs
 
 slice-set-from-d : tie.Need-slice-set-from-d Inv-loop μ-loop
 slice-set-from-d c = search needs
@@ -68,7 +68,7 @@ loop-again c =
     let args = test .before .before .before .args in
     let sample = c .before .before .sample-in in
     let inv = loop .inv in
-    fill-turn sampleIn (args .fields .now) (loop .t .now) (args .d .now) (loop .d) (loop .i) (field .field-length .result) (c .before .with-comma .result) _
+    fill-turn (sampleIn (args .layout)) (args .fields .now) (loop .t .now) (args .d .now) (loop .d) (loop .i) (field .field-length .result) (c .before .with-comma .result) _
     (inv .0) (test .loop-test .taken) (inv .2) (inv .3) (inv .4) (field .field-length .ensures) (c .before .with-comma .ensures)
     (toZ-ofZ w32 (sample .result) (record { sfits = sample .ok }) ∙ sample .ensures)
 
@@ -90,7 +90,7 @@ read-samples-spec =
     field-length-requires
     slice-aggregate-sample-in
     sample-in-requires
-    mul-t7
+    mul-t8
     slice-set-from-d
     with-comma-requires
     sub-t

@@ -1,9 +1,8 @@
 -- `ascii_row::sample_in` meets its contract.
 use mir.ValLaws.{toZ-ofZ}
-use Rattle.ascii_row.proofs.FieldLaws.{sample-told}
+use Rattle.ascii_row.proofs.FieldLaws.{sample-told, told-fits}
 use Rattle.ascii_row.specs.Fields.{sampleIn}
-use Rattle.model.proofs.KindLaws.{fits-size}
-use Rattle.model.specs.declared.Kind.the-variants.{Ascii}
+use Rattle.model.proofs.SampleLaws.{fits-small}
 use mir.Val.{toZ, ofZ}
 use mir.Syntax.{w64, w32}
 use mathlib.Core.Path.{_≡_, _∙_, sym}
@@ -23,8 +22,11 @@ kept c = search needs
 
 narrowed-requires : tie.Need-narrowed-requires
 narrowed-requires c κs =
-    let told = sample-told (c .before .before .before .before .before .args .field .now) (c .before .z .given .0 .0) (sym (c .before .before .before .read-sample .ensures) ∙ c .before .z .given .1) in
-    rw (kept c) (fits-size Ascii (c .before .z .given .0 .0) (told .1))
+    let args = c .before .before .before .before .before .args in
+    let l = args .layout in
+    let z = c .before .z .given .0 .0 in
+    let told = sample-told l (args .field .now) z (sym (c .before .before .before .read-sample .ensures) ∙ c .before .z .given .1) in
+    rw (kept c) (fits-small l z (told-fits l (args .field .now) z told))
 
 enum-told : tie.Need-enum-told
 enum-told c = search needs

@@ -5,9 +5,6 @@ use borrow.Author.Needs.{needs}
 use Rattle.ascii_walk.proofs.row_end.Statement.{statement}
 use Rattle.ascii_walk.proofs.row_end.Tie as tie
 
-cast-a : tie.Need-cast-a
-cast-a c = search needs
-
 cast-d : tie.Need-cast-d
 cast-d c = search needs
 
@@ -24,7 +21,7 @@ returns-2 : tie.Need-returns-2
 returns-2 c = λ h. absurd (omega arith)
 
 samples-end-requires : tie.Need-samples-end-requires
-samples-end-requires c κs = (c .before .time-end .ensures (c .if2 .left) .within, omega arith)
+samples-end-requires c κs = (c .before .before .before .before .before .before .pre, c .before .time-end .ensures (c .if2 .left) .within)
 
 returns-3 : tie.Need-returns-3
 returns-3 c = λ h. absurd (omega arith)
@@ -44,21 +41,20 @@ returns-5 c = λ h.
     let samples = statuses .before .before in
     let time = samples .before .before in
     let number = time .before .before in
-    let args = number .before .before .before .before .args in
+    let args = number .before .before .before .args in
     let l = args .layout in
     let s = args .s .now in
     let e = c .line-end .ensures h in
     rw (e .takes)
     (row-walked l _ s _ _ _ _ (number .number-end .ensures (time .before .if1 .left))
-    (next-time (l .analogs) s _ _ (time .time-end .ensures (samples .before .if2 .left)))
+    (next-time l s _ _ (time .time-end .ensures (samples .before .if2 .left)))
     (samples .samples-end .ensures (statuses .before .if3 .left) .1)
-    (statuses .statuses-end .ensures (c .before .if4 .left) .1 (l .analogs)) (e .within) (e .short) (e .cr) (e .lf))
+    (statuses .statuses-end .ensures (c .before .if4 .left) .1 l) (e .within) (e .short) (e .cr) (e .lf))
 
 pub row-end-spec : {M : Type 1} → statement M
 row-end-spec =
     tie.close
     (tie.spec
-    cast-a
     cast-d
     number-end-requires
     returns

@@ -1,13 +1,14 @@
--- `ascii_walk::sample_end` meets its contract.
+-- `ascii_walk::sample_end` meets its contract: a number that was read is a sample where the layout holds it, and where none was read the part is empty.
 use native.Mathlib.Omega.{arith}
-use Rattle.ascii_row.proofs.FieldLaws.{sample-fine}
-use borrow.Author.Tests.{not-false}
 use mathlib.Core.Path.{_≡_, sym, ap, _∙_}
-use Rattle.model.specs.Kinds.{fitsKind}
-use Rattle.model.specs.declared.Kind.the-variants.{Ascii}
+use mathlib.Core.Logic.{inr}
+use borrow.Author.Needs.{needs}
+use borrow.Author.Tests.{not-false}
 use mir.Val.{toZ, ofZ}
 use mir.Syntax.{w64}
-use borrow.Author.Needs.{needs}
+use Rattle.model.specs.Samples.{holds}
+use Rattle.ascii_row.proofs.FieldLaws.{sample-fine}
+use Rattle.ascii_walk.proofs.WalkLaws.{empty-there}
 use Rattle.ascii_walk.proofs.sample_end.Statement.{statement}
 use Rattle.ascii_walk.proofs.sample_end.Tie as tie
 
@@ -17,33 +18,41 @@ shared-slice-read-if1 c = search needs
 returns : tie.Need-returns
 returns c = λ h. absurd (omega arith)
 
-add-whole-at : tie.Need-add-whole-at
-add-whole-at c = search needs
+add-first : tie.Need-add-first
+add-first c = search needs
 
 whole-at-requires : tie.Need-whole-at-requires
 whole-at-requires c κs = search needs
+
+empty-end-requires : tie.Need-empty-end-requires
+empty-end-requires c κs = search needs
+
+returns-2 : tie.Need-returns-2
+returns-2 c = λ h.
+    let e = c .empty-end .ensures h in
+    empty-there (c .before .before .before .before .before .before .before .args .layout) (c .before .before .before .before .before .before .before .args .s .now) (c .before .before .before .before .before .before .before .args .at) _ (c .before .before .before .before .if1 .left) (e .0) (omega arith)
 
 holds-requires : tie.Need-holds-requires
 holds-requires c κs = search needs
 
 -- the number that was read, as the machine keeps it, and the test of it
-kept : (c : tie.After-holds) → toZ w64 (ofZ w64 (c .before .before .whole-at .result .value)) ≡ c .before .before .whole-at .result .value
+kept : (c : tie.After-holds) → toZ w64 (ofZ w64 (c .before .before .before .before .whole-at .result .value)) ≡ c .before .before .before .before .whole-at .result .value
 kept c = search needs
 
-tested : (c : tie.After-holds) → fitsKind Ascii (c .before .before .whole-at .result .value) ≡ c .holds .result
-tested c = sym (c .holds .ensures ∙ ap (fitsKind Ascii) (kept c))
-
-returns-2 : tie.Need-returns-2
-returns-2 c = λ h. absurd (omega arith)
+tested : (c : tie.After-holds) → holds (c .before .before .before .before .before .before .before .before .args .layout) (c .before .before .before .before .whole-at .result .value) ≡ c .holds .result
+tested c = sym (c .holds .ensures ∙ ap (holds (c .before .before .before .before .before .before .before .before .args .layout)) (kept c))
 
 returns-3 : tie.Need-returns-3
-returns-3 c = λ h.
-    let t = c .before .before .before .whole-at .ensures h in
+returns-3 c = λ h. absurd (omega arith)
+
+returns-4 : tie.Need-returns-4
+returns-4 c = λ h.
+    let t = c .before .before .before .before .before .whole-at .ensures h in
     record {
-      comma = c .before .before .before .before .if1 .left;
+      comma = c .before .before .before .before .before .before .if1 .left;
       past = omega (arith, t .past);
       within = t .within;
-      fine = sample-fine _ _ (t .reads) (tested (c .before) ∙ not-false _ (c .if2 .left));
+      fine = sample-fine (c .before .before .before .before .before .before .before .before .before .args .layout) _ _ (inr (t .reads, tested (c .before) ∙ not-false _ (c .if3 .left)));
     }
 
 pub sample-end-spec : {M : Type 1} → statement M
@@ -52,8 +61,10 @@ sample-end-spec =
     (tie.spec
     shared-slice-read-if1
     returns
-    add-whole-at
+    add-first
     whole-at-requires
-    holds-requires
+    empty-end-requires
     returns-2
-    returns-3)
+    holds-requires
+    returns-3
+    returns-4)

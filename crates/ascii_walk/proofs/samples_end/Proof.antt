@@ -2,6 +2,7 @@
 use mathlib.Core.Path.{_≡_, refl}
 use Prim.Native.Nat.{_≤_, _<_, _-_}
 use native.Mathlib.Omega.{arith}
+use borrow.Author.Needs.{needs}
 use lib.ListN.{length}
 use Rattle.ascii_walk.specs.Inner.{Passed}
 use Rattle.ascii_walk.proofs.WalkLaws.{passed-on, next-sample}
@@ -9,10 +10,13 @@ use Rattle.ascii_walk.proofs.samples_end.Statement.{statement}
 use Rattle.ascii_walk.proofs.samples_end.Tie as tie
 
 abbrev Inv-loop : tie.InvT-loop
-Inv-loop s at a i₀ k₀ i k = (k ≤ a) × (i < length s) × Passed a s 2 at k i
+Inv-loop layout s at a i₀ k₀ i k = (k ≤ a) × (i < length s) × Passed layout s 2 at k i
 
 abbrev μ-loop : tie.MeasureT-loop
-μ-loop s at a i₀ k₀ i k = a - k
+μ-loop layout s at a i₀ k₀ i k = a - k
+
+cast-a : tie.Need-cast-a Inv-loop μ-loop
+cast-a c = search needs
 
 loop-holds : tie.Need-loop-holds Inv-loop μ-loop
 loop-holds c = (omega arith, omega arith, refl)
@@ -32,12 +36,12 @@ loop-less c = omega arith
 loop-again : tie.Need-loop-again Inv-loop μ-loop
 loop-again c =
     let t = c .before .sample-end .ensures (c .if1 .left) in
-    let test = c .before .before in
-    let args = test .before .before .before .args in
-    (omega arith, t .within, passed-on (args .a) (args .s .now) 2 _ _ _ _ (test .before .loop .inv .2) (next-sample (args .a) (args .s .now) _ _ _ (test .loop-test .taken) t))
+    let l = c .before .before .before .before .before .before .args .layout in
+    let s = c .before .before .before .before .before .before .args .s .now in
+    (omega arith, t .within, passed-on l s 2 _ _ _ _ (c .before .before .before .loop .inv .2) (next-sample l s _ _ _ (c .before .before .loop-test .taken) t))
 
 returns-2 : tie.Need-returns-2 Inv-loop μ-loop
-returns-2 c = λ h. let q : c .before .loop .k ≡ c .before .before .before .args .a = omega arith in (c .before .loop .inv .1, rw q at (c .before .loop .inv .2))
+returns-2 c = λ h. let q : c .before .loop .k ≡ c .before .before .before .before .args .layout .analogs = omega arith in (c .before .loop .inv .1, rw q at (c .before .loop .inv .2))
 
 pub samples-end-spec : {M : Type 1} → statement M
 samples-end-spec =
@@ -45,6 +49,7 @@ samples-end-spec =
     (tie.spec
     Inv-loop
     μ-loop
+    cast-a
     loop-holds
     sample-end-requires
     returns

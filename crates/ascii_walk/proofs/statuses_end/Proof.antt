@@ -1,15 +1,16 @@
 -- `ascii_walk::statuses_end` meets its contract. The loop's invariant: k statuses are passed, two bytes each.
 use mathlib.Core.Path.{_≡_}
-use Prim.Native.Nat.{ℕ, _≤_, _+_, _-_, _*_}
+use Prim.Native.Nat.{_≤_, _+_, _-_, _*_}
 use native.Mathlib.Omega.{arith}
 use borrow.Author.Tests.{not-false}
+use Rattle.model.specs.declared.Layout.{Layout}
 use Rattle.ascii_walk.specs.Inner.{Passed}
 use Rattle.ascii_walk.proofs.WalkLaws.{passed-status}
 use Rattle.ascii_walk.proofs.statuses_end.Statement.{statement}
 use Rattle.ascii_walk.proofs.statuses_end.Tie as tie
 
 abbrev Inv-loop : tie.InvT-loop
-Inv-loop s at d k₀ k = (k ≤ d) × ((a : ℕ) → Passed a s (2 + a) at k (at + 2 * k))
+Inv-loop s at d k₀ k = (k ≤ d) × ((l : Layout) → Passed l s (2 + l .analogs) at k (at + 2 * k))
 
 abbrev μ-loop : tie.MeasureT-loop
 μ-loop s at d k₀ k = d - k
@@ -50,7 +51,7 @@ loop-less c = omega arith
 loop-again : tie.Need-loop-again Inv-loop μ-loop
 loop-again c =
     let turn = c .before .before .before in
-    (omega arith, λ a. passed-status a (turn .before .before .before .before .args .s .now) _ _ (turn .loop .inv .1 a) (c .before .status-there .ensures (not-false _ (c .if2 .left))))
+    (omega arith, λ l. passed-status l (turn .before .before .before .before .args .s .now) _ _ (turn .loop .inv .1 l) (c .before .status-there .ensures (not-false _ (c .if2 .left))))
 
 mul-result : tie.Need-mul-result Inv-loop μ-loop
 mul-result c = omega arith
@@ -59,7 +60,7 @@ add-result : tie.Need-add-result Inv-loop μ-loop
 add-result c = omega arith
 
 returns-3 : tie.Need-returns-3 Inv-loop μ-loop
-returns-3 c = λ h. let q : c .before .loop .k ≡ c .before .before .before .before .before .args .d = omega arith in (omega arith, λ a. rw q at (c .before .loop .inv .1 a))
+returns-3 c = λ h. let q : c .before .loop .k ≡ c .before .before .before .before .before .args .d = omega arith in (omega arith, λ l. rw q at (c .before .loop .inv .1 l))
 
 pub statuses-end-spec : {M : Type 1} → statement M
 statuses-end-spec =

@@ -17,7 +17,6 @@ use Rattle.model.specs.declared.Row.{Row}
 use Rattle.model.specs.declared.Written.{Written}
 use Rattle.model.specs.declared.Written.the-variants as written
 use Rattle.model.specs.Refusals.{writtenOf, FewBytes}
-use Rattle.model.specs.Kinds.{fitsKind}
 use Rattle.model.specs.Layouts.{isSized, Sized}
 use Rattle.model.proofs.AnswerLaws.{written-told}
 use Rattle.model.proofs.LayoutLaws.{sized}
@@ -37,12 +36,10 @@ unfolding showRow
 shown-sized l s n e = sized l (on-test (isSized l) (λ t. t) (λ t. let q = rw t at e in cc))
 
 -- a row of text is short where its samples fit and its time is one of 32 bits
-text-short : (l : Layout) (n : ℕ) (r : Row) → Sized l → l .kind ≡ Ascii → misfitOf l r ≡ l .analogs → n < 2 ^ 32 → r .time < 2 ^ 32
+text-short : (l : Layout) (n : ℕ) (r : Row) → Sized l → misfitOf l r ≡ l .analogs → n < 2 ^ 32 → r .time < 2 ^ 32
     → textLength l n r ≤ 2048
 unfolding misfitOf
-text-short l n r fit k all hn ht =
-    let each : (i : ℕ) → i < l .analogs → fitsKind Ascii (getD (r .samples) i (pos 0)) ≡ true = λ i h. rw k at (misfit-all (l .kind) (r .samples) (l .analogs) all i h) in
-    omega (arith, text-line l n r, line-most l n r fit hn ht each)
+text-short l n r fit all hn ht = omega (arith, text-line l n r, line-most l n r fit hn ht (misfit-all l (r .samples) all))
 
 pub written-few : (l : Layout) (n : ℕ) (r : Row) (room : ℕ) (w : Written) → n < 2 ^ 32 → r .time < 2 ^ 32 → w ≡ writtenOf (writeSaid l n r room) → FewBytes w
 unfolding lengthOf
@@ -52,5 +49,5 @@ written-few l n r room (written.Bytes m) hn ht e =
     let y = writable l n r room (t .0) (t .1) in
     let s : m ≡ lengthOf l n r = t .2 ∙ ap length (y .bytes) ∙ sym (length-bytes l n r) in
     by-kind (l .kind)
-    (λ k. let q : m ≡ textLength l n r = s ∙ text-kind (l .kind) (textLength l n r) (rowSize l) k in omega (arith, text-short l n r (y .fit) k (y .all) hn ht))
+    (λ k. let q : m ≡ textLength l n r = s ∙ text-kind (l .kind) (textLength l n r) (rowSize l) k in omega (arith, text-short l n r (y .fit) (y .all) hn ht))
     (λ k. let q : m ≡ rowSize l = s ∙ binary-kind (l .kind) (textLength l n r) (rowSize l) k in omega (arith, size-le l (y .fit)))

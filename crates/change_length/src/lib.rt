@@ -11,6 +11,7 @@ ghost use mathlib.Core.Bool.{true};
 ghost use Prim.Native.Nat.{_+_, _*_, _≤_};
 ghost use lib.ListN.{length};
 ghost use Rattle.ground.specs.Said.{says};
+ghost use Rattle.model.specs.declared.Kind.the-variants.{Ascii};
 ghost use Rattle.model.specs.Layouts.{Sized, inKind};
 ghost use Rattle.model.specs.Refusals.{neededOf, FewBytes};
 ghost use Rattle.binary_file.specs.Files.{checkBinary};
@@ -95,7 +96,7 @@ fn weigh(layout: Layout, kind: Kind, n: u32, rest: &[u8], tally: Tally) -> Tally
     let a = layout.analogs;
     let samples = rows::samples_here(layout, rest);
     let time = rows::time_here(layout, rest);
-    let bad = model::first_misfit(kind, samples, a as usize);
+    let bad = model::first_misfit(new, samples);
     let size = row_bytes::length_by(new, n, time, &samples);
     tallied(tally, n, bad as u32, a, tally.length + size)
 }
@@ -171,7 +172,7 @@ fn decide_by_rows(layout: Layout, data: &[u8], kind: Kind) -> Written
 
 // How many bytes an accepted file of a binary kind takes in another, or 16 where a row does not fit.
 fn settle_binary(layout: Layout, data: &[u8], kind: Kind) -> Written
-    requires { ⌜ (Sized layout) × (checkBinary layout (now «data») ≡ says tt) ⌝ }
+    requires { ⌜ (Sized layout) × (checkBinary layout (now «data») ≡ says tt) × (kind ≡ Ascii → ⊥) ⌝ }
     ensures { λ r. ⌜ (r ≡ neededOf (settleBinary layout (now («data» .entry)) kind)) × (FewBytes r) ⌝ }
 {
     match recode::all_fit(layout, kind, data) {

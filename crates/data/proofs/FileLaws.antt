@@ -1,6 +1,6 @@
 -- Laws of data files of every kind: what is written is accepted and shown, and what is accepted can be written.
 --     file-text, file-binary         a file that is written, by the kind
---     Writes, fits-text              a row that can be written: its time and its samples fit, for text the bounds of text
+--     Writes, each-fits              a row that can be written: its time and its samples fit, all of them or each
 --     fine-back, row-back            a file of written rows is fine, and has each row as it was written, with its places past A and D zero
 --     row-writes, row-trimmed        a row of an accepted file can be written, and has its places past A and D zero
 --     file-back                      an accepted file of a binary kind is the file of its rows
@@ -21,7 +21,6 @@ use Rattle.model.specs.declared.Kind.{Kind}
 use Rattle.model.specs.declared.Kind.the-variants.{Ascii}
 use Rattle.model.specs.declared.Layout.{Layout}
 use Rattle.model.specs.declared.Row.{Row}
-use Rattle.model.specs.Kinds.{fitsKind}
 use Rattle.model.specs.Layouts.{isSized}
 use Rattle.model.specs.Rows.{trimmed}
 use Rattle.model.proofs.FitLaws.{misfit-all, all-misfit}
@@ -46,6 +45,15 @@ pub record Writes (l : Layout) (r : Row) : Type 0 where
   pub time : r .time < 2 ^ 32
   pub all : misfitOf l r ≡ l .analogs
 
+-- the same as a row of text is asked for it, sample by sample
+pub each-fits : (l : Layout) (r : Row) → Writes l r → Fits l r
+unfolding misfitOf
+each-fits l r w = record { time = w .time; samples = misfit-all l (r .samples) (w .all) }
+
+fits-all : (l : Layout) (r : Row) → Fits l r → Writes l r
+unfolding misfitOf
+fits-all l r f = record { time = f .time; all = all-misfit l (r .samples) (f .samples) }
+
 module _ (l : Layout) (text : l .kind ≡ Ascii) where
   pub file-text : (r : ℕ → Row) → fileOf l r ≡ textFile l r
   unfolding fileOf endMark
@@ -54,14 +62,6 @@ module _ (l : Layout) (text : l .kind ≡ Ascii) where
         text-kind (l .kind) mark [] text,
         cat-ext (λ i. bytesOf l (i + 1) (r i)) (λ i. textOf l (i + 1) (r i)) (l .rows) (λ i h. bytes-text l text (i + 1) (r i)),
       )
-
-  pub fits-text : (r : Row) → Writes l r → Fits l r
-  unfolding misfitOf
-  fits-text r w = record { time = w .time; samples = λ i h. ap (λ (k : Kind). fitsKind k (getD (r .samples) i (pos 0))) (sym text) ∙ misfit-all (l .kind) (r .samples) (l .analogs) (w .all) i h }
-
-  text-writes : (r : Row) → Fits l r → Writes l r
-  unfolding misfitOf
-  text-writes r f = record { time = f .time; all = all-misfit (l .kind) (r .samples) (l .analogs) (λ i h. ap (λ (k : Kind). fitsKind k (getD (r .samples) i (pos 0))) text ∙ f .samples i h) }
 
 module _ (l : Layout) (other : l .kind ≡ Ascii → ⊥) where
   pub file-binary : (r : ℕ → Row) → fileOf l r ≡ binaryFile l r
@@ -79,7 +79,7 @@ module _ (l : Layout) (ok : isSized l ≡ true) (r : ℕ → Row) (writes : (i :
   unfolding fileFine
   fine-back =
       by-kind (l .kind)
-      (λ e. rw (text-kind (l .kind) (checkText l (fileOf l r)) (checkBinary l (fileOf l r)) e, file-text l e r) (ascii_file.text-accepted l (sized l ok) r (λ i h. fits-text l e (r i) (writes i h))))
+      (λ e. rw (text-kind (l .kind) (checkText l (fileOf l r)) (checkBinary l (fileOf l r)) e, file-text l e r) (ascii_file.text-accepted l (sized l ok) r (λ i h. each-fits l (r i) (writes i h))))
       (λ e. rw (binary-kind (l .kind) (checkText l (fileOf l r)) (checkBinary l (fileOf l r)) e, file-binary l e r) (binary-accepted l r (sized l ok)))
 
   pub row-back : (i : ℕ) → i < l .rows → rowAt l (fileOf l r) i ≡ trimmed l (r i)
@@ -88,7 +88,7 @@ module _ (l : Layout) (ok : isSized l ≡ true) (r : ℕ → Row) (writes : (i :
       by-kind (l .kind)
       (λ e.
       rw (text-kind (l .kind) (textRow l i (fileOf l r)) (binaryRow l i (fileOf l r)) e, file-text l e r)
-      (ascii_file.text-reads-back l (sized l ok) r (λ j k. fits-text l e (r j) (writes j k)) i h))
+      (ascii_file.text-reads-back l (sized l ok) r (λ j k. each-fits l (r j) (writes j k)) i h))
       (λ e.
       rw (binary-kind (l .kind) (textRow l i (fileOf l r)) (binaryRow l i (fileOf l r)) e, file-binary l e r)
       (binary-reads-back l r i h (writes i h .all) (writes i h .time)))
@@ -99,12 +99,12 @@ module _ (l : Layout) (s : List ℕ) (bytes : every isByte s ≡ true) where
   unfolding rowAt binaryRow misfitOf binary.rowOf
   row-writes i =
       by-kind (l .kind)
-      (λ e. rw (text-kind (l .kind) (textRow l i s) (binaryRow l i s) e) (text-writes l e (textRow l i s) (ascii_file.row-fits l i s)))
+      (λ e. rw (text-kind (l .kind) (textRow l i s) (binaryRow l i s) e) (fits-all l (textRow l i s) (ascii_file.row-fits l i s)))
       (λ e.
       let b = rowBytes l i s in
       let h = bytes-part (i * binary.rowSize l) (i * binary.rowSize l + binary.rowSize l) s bytes in
       rw (binary-kind (l .kind) (textRow l i s) (binaryRow l i s) e)
-      (record { time = wordOf-part-lt b 4 8 4 h (omega arith); all = laws.row-fits l b h }))
+      (record { time = wordOf-part-lt b 4 8 4 h (omega arith); all = laws.row-fits l b e h }))
 
   pub row-trimmed : (i : ℕ) → trimmed l (rowAt l s i) ≡ rowAt l s i
   unfolding rowAt binaryRow

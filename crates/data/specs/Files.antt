@@ -31,9 +31,9 @@ rowAt l s i = byKind (l .kind) (ascii_file.textRow l i s) (binary_file.binaryRow
 unfoldable pub hasRow : Layout → ℕ → Bool
 hasRow l n = leb 1 n && leb n (l .rows)
 
--- the first of row r's samples that does not fit the kind, or A
+-- the first of row r's samples that does not fit the layout, or A; a missing one fits
 unfoldable pub misfitOf : Layout → Row → ℕ
-misfitOf l r = misfit (l .kind) (r .samples) (l .analogs)
+misfitOf l r = misfit l (r .samples)
 
 -- whether a data file is accepted
 unfoldable pub checkFile : Layout → List ℕ → Answer

@@ -121,10 +121,9 @@ fn may_write(layout: Layout, n: u32, row: Row, room: usize) -> Written
     if !has_row(layout, n) {
         return Written::No(model::refused(15, 0, 0));
     }
-    let kind = layout.kind;
     let a = layout.analogs as usize;
     let samples = row.samples;
-    let bad = model::first_misfit(kind, samples, a);
+    let bad = model::first_misfit(layout, samples);
     let field = 3 + bad as u32;
     let size = row_bytes::row_length(layout, n, row);
     if bad != a {

@@ -7,15 +7,14 @@ use mathlib.Core.Bool.{Bool, true, false}
 use mathlib.Core.List.{_∷_, _++_}
 use Prim.Native.Nat.{ℕ, _+_}
 use lib.ListN.{length}
-use Rattle.numerals.specs.Decimals.{plain}
 use Rattle.model.specs.declared.Row.{Row}
-use Rattle.model.specs.Rows.{sampleAt, sampleValue, statusAt, statusValue}
+use Rattle.model.specs.Rows.{sampleAt, statusAt, statusValue}
 use Rattle.pieces.proofs.Laws.{cat-next}
-use Rattle.list_lines.specs.Lines.{spacedSamples, spacedStatus, spacedStatuses}
+use Rattle.list_lines.specs.Lines.{sampleWord, spacedSamples, spacedStatus, spacedStatuses}
 
-pub spaced-samples-next : (r : Row) (i : ℕ) → spacedSamples r i ++ 32 ∷ plain (sampleValue (sampleAt (i + 1) r)) ≡ spacedSamples r (i + 1)
+pub spaced-samples-next : (r : Row) (i : ℕ) → spacedSamples r i ++ 32 ∷ sampleWord (sampleAt (i + 1) r) ≡ spacedSamples r (i + 1)
 unfolding spacedSamples
-spaced-samples-next r i = cat-next (λ j. 32 ∷ plain (sampleValue (sampleAt (j + 1) r))) i
+spaced-samples-next r i = cat-next (λ j. 32 ∷ sampleWord (sampleAt (j + 1) r)) i
 
 pub spaced-statuses-next : (r : Row) (i : ℕ) → spacedStatuses r i ++ spacedStatus (statusValue (statusAt (i + 1) r)) ≡ spacedStatuses r (i + 1)
 unfolding spacedStatuses

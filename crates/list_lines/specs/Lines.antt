@@ -1,6 +1,6 @@
 -- The lines of a listing: the first line, the line of a row, the line of a refusal.
 use mathlib.Core.Bool.{Bool}
-use mathlib.Core.List.{List, _∷_, _++_}
+use mathlib.Core.List.{List, [], _∷_, _++_}
 use Prim.Native.Nat.{ℕ, _+_}
 use Rattle.ground.specs.Choice.{if_then_else_}
 use Rattle.ground.specs.Tables.{cat}
@@ -9,8 +9,10 @@ use Rattle.numerals.specs.Decimals.{decimal, plain}
 use Rattle.model.specs.declared.Layout.{Layout}
 use Rattle.model.specs.declared.Row.{Row}
 use Rattle.model.specs.declared.Refusal.{Refusal}
+use Rattle.model.specs.declared.Sample.{Sample}
+use Rattle.model.specs.declared.Sample.the-variants.{Is, Missing, No}
 use Rattle.model.specs.Kinds.{kindName}
-use Rattle.model.specs.Rows.{sampleAt, sampleValue, statusAt, statusValue}
+use Rattle.model.specs.Rows.{sampleAt, statusAt, statusValue}
 
 -- a count after its name
 abbrev pub named : List ℕ → ℕ → List ℕ
@@ -26,9 +28,15 @@ headLine l =
     ++ kindName (l .kind)
     ++ quoted "\n"
 
+-- a sample in a listing: its number, or x where it is missing
+unfoldable pub sampleWord : Sample → List ℕ
+sampleWord (Is z) = plain z
+sampleWord Missing = quoted "x"
+sampleWord (No r) = []
+
 -- the samples of the first a channels, a space before each
 unfoldable pub spacedSamples : Row → ℕ → List ℕ
-spacedSamples r a = cat (λ i. 32 ∷ plain (sampleValue (sampleAt (i + 1) r))) a
+spacedSamples r a = cat (λ i. 32 ∷ sampleWord (sampleAt (i + 1) r)) a
 
 -- a space and a status
 unfoldable pub spacedStatus : Bool → List ℕ

@@ -14,9 +14,9 @@ ghost use Prim.Native.Nat.{_+_, _*_, _≤_};
 ghost use lib.ListN.{length};
 ghost use Rattle.numerals.specs.Decimals.{decimal, plain};
 ghost use Rattle.model.specs.Layouts.{Sized};
-ghost use Rattle.model.specs.Rows.{sampleAt, sampleValue, statusAt, statusValue};
+ghost use Rattle.model.specs.Rows.{statusAt, statusValue};
 ghost use Rattle.pieces.specs.Inner.{Put};
-ghost use Rattle.list_lines.specs.Lines.{named, headLine, spacedSamples, spacedStatus, spacedStatuses, rowLine, refusalLine};
+ghost use Rattle.list_lines.specs.Lines.{named, headLine, sampleWord, spacedSamples, spacedStatus, spacedStatuses, rowLine, refusalLine};
 ghost use Rattle.list_lines.specs.Inner.{lineMost};
 
 // The plain decimal of v, at most 10 characters.
@@ -56,19 +56,8 @@ pub fn put_head_line(out: &mut [u8], layout: Layout) -> usize
     pieces::put_all(out, word, b"\n")
 }
 
-// The sample of an analog channel, which a row has.
-fn sample_of(row: Row, channel: AnalogNo) -> i32
-    ensures { λ r. ⌜ r ≡ sampleValue (sampleAt (channel .0) row) ⌝ }
-{
-    let sample = row.sample(channel);
-    match sample {
-        Sample::Is(z) => z,
-        Sample::No(_) => 0,
-    }
-}
-
-// A space and a sample, at most 12 characters.
-fn put_sample(out: &mut [u8], n: usize, z: i32) -> usize
+// A space and a number, at most 12 characters.
+fn put_number(out: &mut [u8], n: usize, z: i32) -> usize
     requires { ⌜ n + 12 ≤ length (now out) ⌝ }
     ensures { λ r. ⌜ Put (now (out .entry)) n (32 ∷ plain z) (now (out .exit)) r ⌝ }
     ensures { λ r. ⌜ r ≤ n + 12 ⌝ }
@@ -78,6 +67,19 @@ fn put_sample(out: &mut [u8], n: usize, z: i32) -> usize
     let to = m + numerals::plain_length(wide);
     numerals::put_plain(&mut out[m..to], wide);
     to
+}
+
+// A space and a sample, an x for a missing one; at most 12 characters.
+fn put_sample(out: &mut [u8], n: usize, sample: Sample) -> usize
+    requires { ⌜ n + 12 ≤ length (now out) ⌝ }
+    ensures { λ r. ⌜ Put (now (out .entry)) n (32 ∷ sampleWord sample) (now (out .exit)) r ⌝ }
+    ensures { λ r. ⌜ r ≤ n + 12 ⌝ }
+{
+    match sample {
+        Sample::Is(z) => put_number(out, n, z),
+        Sample::Missing => pieces::put_all(out, n, b" x"),
+        Sample::No(_) => pieces::put_all(out, n, b" "),
+    }
 }
 
 // The samples of the first a channels.
@@ -90,7 +92,7 @@ fn put_samples(out: &mut [u8], n: usize, row: Row, a: u16) -> usize
     let mut to = n;
     while i < a {
         i += 1;
-        to = put_sample(out, to, sample_of(row, AnalogNo(i)));
+        to = put_sample(out, to, row.sample(AnalogNo(i)));
     }
     to
 }

@@ -37,7 +37,7 @@ pub fn length_by(layout: Layout, n: u32, time: u32, samples: &[i32]) -> usize
 
 // The bytes of row n fill the slice.
 pub fn put_row(layout: Layout, n: u32, row: Row, d: &mut [u8])
-    requires { ⌜ (Sized layout) × (length (now d) ≡ lengthOf layout n row) × (misfit (layout .kind) (row .samples) (layout .analogs) ≡ layout .analogs) ⌝ }
+    requires { ⌜ (Sized layout) × (length (now d) ≡ lengthOf layout n row) × (misfit layout (row .samples) ≡ layout .analogs) ⌝ }
     ensures { λ _. ⌜ now (d .exit) ≡ bytesOf layout n row ⌝ }
 {
     let kind = layout.kind;

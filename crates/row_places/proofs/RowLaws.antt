@@ -2,30 +2,38 @@
 --     part-at            a place of a part
 --     filled-part        a part, and then the same up to n places, is filled from the places that it is a part of
 --     row-places         how many places a row has
+--     shown-back         a sample of 32 bits is read back from the place that shows it
+--     shown-none         and is shown as "there is none" exactly when it is missing
+--     sample-at          where a sample stands among the places of a row
+--     other-at           no place but that of a sample says that there is none
 --     row-back           the row that the places of a row say is the row
 --     places-back        places that fit are the places of the row that they say
 -- Assumes nothing.
 use mathlib.Core.Path.{_≡_, refl, sym, _∙_, ap}
+use mathlib.Core.Logic.{_↔_, _⊎_, inl, inr, ⊎-elim}
 use mathlib.Core.Bool.{Bool, true, false, not, _&&_, false≢true}
 use mathlib.Core.List.{List, _∷_, _++_}
-use Prim.Native.Nat.{ℕ, zero, suc, _+_, _-_, _<_, _≤_}
+use Prim.Native.Nat.{ℕ, zero, suc, _+_, _-_, _^_, _<_, _≤_}
 use native.Mathlib.Omega.{arith}
 use borrow.Author.Tests.{ltb-false, le-ltb, lt-leb, not-true}
 use lib.Dec.{ltb}
 use lib.IntN.{ℤ, pos, negsuc, natAbs}
-use lib.ListN.{length, getD, take, drop, replicate, length-append, List·getD-append}
+use lib.ListN.{length, getD, take, drop, replicate, length-append, List·getD-append, List·getD-eq-default}
 use lib.Seq.{getD-take, getD-drop, getD-append-add}
-use lib.Signed.{ltZ}
+use lib.Signed.{mag, ltZ}
 use Rattle.ground.specs.Tables.{part, tab, padded}
+use Rattle.ground.proofs.Cases.{on-test, lt-or-ge, clash}
 use Rattle.ground.proofs.Every.{and-split}
 use Rattle.ground.proofs.Parts.{length-part}
 use Rattle.ground.proofs.Tables.{tab-ext, length-tab, getD-tab, tab-take}
 use Rattle.ground.proofs.Filled.{tab-front, tab-split, getD-padded}
 use Rattle.model.specs.declared.Layout.{Layout}
 use Rattle.model.specs.declared.Row.{Row}
+use Rattle.model.specs.Samples.{missing, isMissing, none, isNone, sampleOf}
 use Rattle.model.specs.Rows.{latestTime, trimmed}
-use Rattle.row_places.specs.Rows.{placesOf, boolPlace, rowPlaces, upTo, fitsPlace, unfit, rowOfPlaces}
-use Rattle.row_places.proofs.UnfitLaws.{all-fit}
+use Rattle.model.proofs.SampleLaws.{missing-is, is-missing, none-is, is-none, small-none, holds-there}
+use Rattle.row_places.specs.Rows.{placesOf, boolPlace, samplePlace, placeSample, rowPlaces, upTo, fitsPlace, unfit, rowOfPlaces}
+use Rattle.row_places.proofs.UnfitLaws.{all-fit, sample-fits}
 
 pub part-at : {A : Type 0} (f t i : ℕ) (l : List A) (z : A) → i < t - f → getD (part f t l) i z ≡ getD l (f + i) z
 part-at f t i l z h = getD-take (t - f) (drop f l) i z h ∙ getD-drop f l i z
@@ -38,9 +46,29 @@ filled-part h f a n l z y e =
     (ap (λ xs. xs ++ replicate (n - a) y)
     (tab-ext (λ i. h (getD (part f (f + a) l) i z)) (λ i. h (getD l (f + i) z)) a (λ i q. ap h (part-at f (f + a) i l z (omega arith)))))
 
+pub shown-back : (z : ℤ) → mag z < 2 ^ 31 → placeSample (samplePlace z) ≡ z
+unfolding placeSample samplePlace sampleOf
+shown-back z f =
+    on-test (isMissing z)
+    (λ t. rw (t, none-is, is-missing z t))
+    (λ t. rw (t, small-none z f))
+
+pub shown-none : (z : ℤ) → mag z < 2 ^ 31 → samplePlace z ≡ none ↔ isMissing z ≡ true
+unfolding samplePlace sampleOf
+shown-none z f = (
+  λ e.
+      on-test (isMissing z)
+      (λ t. t)
+      (λ t.
+      let q : z ≡ none = rw t at e in
+      let n : isNone none ≡ false = rw q at (small-none z f) in
+      absurd (false≢true (sym n ∙ none-is))),
+  λ t. rw t,
+)
+
 module _ (l : Layout) (r : Row) where
   abbrev samples : ℕ → ℤ
-  samples i = getD (r .samples) i (pos 0)
+  samples i = samplePlace (getD (r .samples) i (pos 0))
 
   abbrev statuses : ℕ → ℤ
   statuses i = boolPlace (getD (r .statuses) i false)
@@ -50,7 +78,7 @@ module _ (l : Layout) (r : Row) where
   row-places =
       omega (arith, length-append (tab samples (l .analogs)) (tab statuses (l .statuses)), length-tab samples (l .analogs), length-tab statuses (l .statuses))
 
-  sample-at : (i : ℕ) → i < l .analogs → getD (rowPlaces l r) (1 + i) (pos 0) ≡ getD (r .samples) i (pos 0)
+  pub sample-at : (i : ℕ) → i < l .analogs → getD (rowPlaces l r) (1 + i) (pos 0) ≡ samplePlace (getD (r .samples) i (pos 0))
   unfolding rowPlaces
   sample-at i h =
       let e : 1 + i ≡ suc i = omega arith in
@@ -65,6 +93,27 @@ module _ (l : Layout) (r : Row) where
       let e : 1 + a + i ≡ suc (length (tab samples a) + i) = rw length-tab (omega arith) in
       rw e (getD-append-add (tab samples a) (tab statuses (l .statuses)) i (pos 0) ∙ getD-tab statuses (l .statuses) i (pos 0) h)
 
+  -- a status is not below zero
+  status-pos : (i : ℕ) → getD (tab statuses (l .statuses)) i (pos 0) ≡ none → ⊥
+  status-pos i e =
+      ⊎-elim
+      (λ (h : i < l .statuses). go (getD (r .statuses) i false) (sym (getD-tab statuses (l .statuses) i (pos 0) h) ∙ e))
+      (λ (h : l .statuses ≤ i). let q : pos 0 ≡ none = sym (List·getD-eq-default (tab statuses (l .statuses)) (pos 0) {n = i} (rw length-tab h)) ∙ e in clash (cc))
+      (lt-or-ge i (l .statuses))
+    where
+      go : (on : Bool) → boolPlace on ≡ none → ⊥
+      go true q = clash (cc)
+      go false q = clash (cc)
+
+  pub other-at : (j : ℕ) → (j < 1) ⊎ (1 + l .analogs ≤ j) → getD (rowPlaces l r) j (pos 0) ≡ none → ⊥
+  unfolding rowPlaces
+  other-at zero h e = clash (cc)
+  other-at (suc j) (inl h) e = absurd (omega arith)
+  other-at (suc j) (inr h) e =
+      let a = l .analogs in
+      let q : j ≡ length (tab samples a) + (j - a) = rw length-tab (omega arith) in
+      status-pos (j - a) (sym (getD-append-add (tab samples a) (tab statuses (l .statuses)) (j - a) (pos 0)) ∙ ap (λ (i : ℕ). getD (tab samples a ++ tab statuses (l .statuses)) i (pos 0)) (sym q) ∙ e)
+
   on-back : (on : Bool) → ltZ (pos 0) (boolPlace on) ≡ on
   on-back true = refl
   on-back false = refl
@@ -73,10 +122,12 @@ module _ (l : Layout) (r : Row) where
   unfolding rowPlaces
   time-back = refl
 
-  pub row-back : rowOfPlaces l (rowPlaces l r) ≡ trimmed l r
+  pub row-back : ((i : ℕ) → i < l .analogs → mag (getD (r .samples) i (pos 0)) < 2 ^ 31) → rowOfPlaces l (rowPlaces l r) ≡ trimmed l r
   unfolding rowOfPlaces trimmed
-  row-back =
-      let z = tab-ext (λ i. getD (rowPlaces l r) (1 + i) (pos 0)) samples (l .analogs) sample-at in
+  row-back small =
+      let z =
+      tab-ext (λ i. placeSample (getD (rowPlaces l r) (1 + i) (pos 0))) (λ i. getD (r .samples) i (pos 0)) (l .analogs)
+      (λ i h. ap placeSample (sample-at i h) ∙ shown-back (getD (r .samples) i (pos 0)) (small i h)) in
       let s =
       tab-ext (λ i. ltZ (pos 0) (getD (rowPlaces l r) (1 + l .analogs + i) (pos 0))) (λ i. getD (r .statuses) i false) (l .statuses)
       (λ i h. ap (ltZ (pos 0)) (status-at i h) ∙ on-back (getD (r .statuses) i false)) in
@@ -96,9 +147,19 @@ module _ (l : Layout) (zs : List ℤ) (fit : unfit l zs ≡ placesOf l) where
       go (pos v) q = refl
       go (negsuc v) q = absurd (false≢true q)
 
-  sample-told : (i : ℕ) → i < l .analogs → getD (rowOfPlaces l zs .samples) i (pos 0) ≡ place (1 + i)
+  -- a sample that fits is missing or a number
+  taken-back : (z : ℤ) → (isNone z ≡ false → isMissing z ≡ false) → samplePlace (placeSample z) ≡ z
+  unfolding placeSample samplePlace sampleOf
+  taken-back z f =
+      on-test (isNone z)
+      (λ t. rw (t, missing-is, is-none z t))
+      (λ t. rw (t, f t))
+
+  sample-told : (i : ℕ) → i < l .analogs → samplePlace (getD (rowOfPlaces l zs .samples) i (pos 0)) ≡ place (1 + i)
   unfolding rowOfPlaces
-  sample-told i h = getD-padded (λ j. place (1 + j)) (l .analogs) 96 i (pos 0) (pos 0) h
+  sample-told i h =
+      ap samplePlace (getD-padded (λ j. placeSample (place (1 + j))) (l .analogs) 96 i (pos 0) (pos 0) h)
+      ∙ taken-back (place (1 + i)) (λ t. holds-there l (place (1 + i)) (sample-fits l zs fit i h t))
 
   -- a status is 0 or 1
   on-place : (z : ℤ) → upTo (pos 1) z ≡ true → boolPlace (ltZ (pos 0) z) ≡ z
@@ -124,7 +185,7 @@ module _ (l : Layout) (zs : List ℤ) (fit : unfit l zs ≡ placesOf l) where
       let a = l .analogs in
       let d = l .statuses in
       let z =
-      tab-ext (λ i. getD (rowOfPlaces l zs .samples) i (pos 0)) (λ i. place (suc i)) a
+      tab-ext (λ i. samplePlace (getD (rowOfPlaces l zs .samples) i (pos 0))) (λ i. place (suc i)) a
       (λ i h. let e : 1 + i ≡ suc i = omega arith in sample-told i h ∙ ap place e) in
       let s =
       tab-ext (λ i. boolPlace (getD (rowOfPlaces l zs .statuses) i false)) (λ i. place (suc (a + i))) d

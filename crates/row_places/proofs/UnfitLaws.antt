@@ -1,10 +1,11 @@
 -- Laws of the places that fit: the search of ground, of places.
 --     unfit-le       a place that does not fit is one of the row's, or there is none
 --     all-fit        where none is found, each fits
---     time-small, sample-small     a time and a sample that fit are small
+--     time-small                   a time that fits is small
+--     sample-fits, sample-small    the place of a sample that fits says that there is none, or it is a sample, and small
 -- Assumes nothing.
 use mathlib.Core.Path.{_≡_}
-use mathlib.Core.Bool.{true, not, _&&_, false≢true}
+use mathlib.Core.Bool.{true, false, not, _&&_, false≢true}
 use mathlib.Core.List.{List}
 use Prim.Native.Nat.{ℕ, _+_, _<_, _≤_, _^_}
 use native.Mathlib.Omega.{arith}
@@ -16,10 +17,12 @@ use borrow.Author.Tests.{ltb-false, le-ltb, le-leb, not-true}
 use Rattle.ground.proofs.Every.{and-split}
 use Rattle.ground.proofs.Search.{fail-none, fail-le}
 use Rattle.model.specs.declared.Layout.{Layout}
-use Rattle.model.specs.Kinds.{fitsKind}
+use Rattle.model.specs.Kinds.{halfOf}
+use Rattle.model.specs.Samples.{isNone, holds}
 use Rattle.model.specs.Rows.{latestTime}
-use Rattle.model.proofs.KindLaws.{fits-size, half-le}
-use Rattle.row_places.specs.Rows.{placesOf, upTo, fitsPlace, unfit}
+use Rattle.model.proofs.KindLaws.{half-le}
+use Rattle.model.proofs.SampleLaws.{size-mag, holds-size}
+use Rattle.row_places.specs.Rows.{placesOf, upTo, fitsSample, fitsPlace, unfit}
 
 module _ (l : Layout) (zs : List ℤ) where
   pub unfit-le : unfit l zs ≤ placesOf l
@@ -40,9 +43,11 @@ module _ (l : Layout) (zs : List ℤ) where
           omega (arith, ltb-false latestTime v (not-true (ltb latestTime v) e))
       go (negsuc v) q = absurd (false≢true q)
 
-  pub sample-small : unfit l zs ≡ placesOf l → (i : ℕ) → i < l .analogs → mag (getD zs (1 + i) (pos 0)) < 2 ^ 31
-  unfolding fitsPlace
-  sample-small e i h =
+  pub sample-fits : unfit l zs ≡ placesOf l → (i : ℕ) → i < l .analogs → isNone (getD zs (1 + i) (pos 0)) ≡ false → holds l (getD zs (1 + i) (pos 0)) ≡ true
+  unfolding fitsPlace fitsSample
+  sample-fits e i h t = rw (le-ltb (1 + i) 1 (omega arith), le-leb (1 + i) (l .analogs) (omega arith), t) at (all-fit e (1 + i) (omega arith))
+
+  pub sample-small : unfit l zs ≡ placesOf l → (i : ℕ) → i < l .analogs → isNone (getD zs (1 + i) (pos 0)) ≡ false → mag (getD zs (1 + i) (pos 0)) < 2 ^ 31
+  sample-small e i h t =
       let z = getD zs (1 + i) (pos 0) in
-      let f : fitsKind (l .kind) z ≡ true = rw (le-ltb (1 + i) 1 (omega arith), le-leb (1 + i) (l .analogs) (omega arith)) at (all-fit e (1 + i) (omega arith)) in
-      omega (arith, fits-size (l .kind) z f, half-le (l .kind))
+      omega (arith, size-mag (halfOf (l .kind)) z (holds-size l z (sample-fits e i h t)), half-le (l .kind))

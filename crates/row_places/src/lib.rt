@@ -1,4 +1,4 @@
-// A row as places, whole numbers of 64 bits, as the exported calls show and take it.
+// A row as places, whole numbers of 64 bits, as the exported calls show and take it; a missing sample is a number that is no sample of any kind.
 // Each function gives exactly what the definition of its name says; the laws of proofs/ say that a row is read back from the places that show it.
 use model::Layout;
 use model::Row;
@@ -11,10 +11,23 @@ ghost use lib.ListN.{length, getD};
 ghost use lib.Signed.{mag, ltZ};
 ghost use Rattle.ground.specs.Tables.{tab, padded};
 ghost use Rattle.model.specs.Layouts.{Sized};
-ghost use Rattle.row_places.specs.Rows.{placesOf, boolPlace, rowPlaces, upTo, fitsPlace, unfit, rowOfPlaces};
+ghost use Rattle.model.specs.Samples.{isNone};
+ghost use Rattle.row_places.specs.Rows.{placesOf, boolPlace, samplePlace, placeSample, rowPlaces, upTo, fitsSample, fitsPlace, unfit, rowOfPlaces};
 
 // A status that is on.
 const ON: i64 = 1;
+
+// The number for "there is none", and the lowest that is not it.
+pub const NONE: i64 = -9223372036854775808;
+
+const LOWEST: i64 = -9223372036854775807;
+
+// Whether a place says that there is none.
+pub fn is_none(z: i64) -> bool
+    ensures { λ r. ⌜ r ≡ isNone z ⌝ }
+{
+    z < LOWEST
+}
 
 // A truth value as a place.
 pub fn bool_place(on: bool) -> i64
@@ -31,14 +44,24 @@ pub fn places_of(layout: Layout) -> usize
     1 + layout.analogs as usize + layout.statuses as usize
 }
 
+// A sample as a place.
+fn sample_place(z: i32) -> i64
+    ensures { λ r. ⌜ r ≡ samplePlace z ⌝ }
+{
+    if model::is_missing(z) {
+        return NONE;
+    }
+    words::widened(z)
+}
+
 // The samples fill the slice.
 fn put_samples(zs: &[i32], d: &mut [i64])
     requires { ⌜ length (now d) ≤ length (now zs) ⌝ }
-    ensures { λ _. ⌜ now (d .exit) ≡ tab (λ i. getD (now (zs .entry)) i (pos 0)) (length (now (d .entry))) ⌝ }
+    ensures { λ _. ⌜ now (d .exit) ≡ tab (λ i. samplePlace (getD (now (zs .entry)) i (pos 0))) (length (now (d .entry))) ⌝ }
 {
     let mut i = 0;
     while i < d.len() {
-        d[i] = words::widened(zs[i]);
+        d[i] = sample_place(zs[i]);
         i += 1;
     }
 }
@@ -90,6 +113,16 @@ fn up_to(most: i64, z: i64) -> bool
     true
 }
 
+// Whether the place of a sample may hold z.
+fn fits_sample(layout: Layout, z: i64) -> bool
+    ensures { λ r. ⌜ r ≡ fitsSample layout z ⌝ }
+{
+    if is_none(z) {
+        return true;
+    }
+    layout.holds(z)
+}
+
 // Whether place i may hold z.
 fn fits_place(layout: Layout, i: usize, z: i64) -> bool
     ensures { λ r. ⌜ r ≡ fitsPlace layout i z ⌝ }
@@ -97,9 +130,8 @@ fn fits_place(layout: Layout, i: usize, z: i64) -> bool
     if i < 1 {
         return up_to(words::plus(Row::LATEST as u64), z);
     }
-    let kind = layout.kind;
     if i <= layout.analogs as usize {
-        return kind.holds(z);
+        return fits_sample(layout, z);
     }
     up_to(ON, z)
 }
@@ -121,15 +153,26 @@ pub fn first_unfit(layout: Layout, zs: &[i64]) -> usize
     i
 }
 
-// The a samples of the places, and zeros.
+// A place as a sample.
+fn place_sample(z: i64) -> i32
+    requires { ⌜ (isNone z ≡ false → mag z < 2 ^ 31) ⌝ }
+    ensures { λ r. ⌜ r ≡ placeSample z ⌝ }
+{
+    if is_none(z) {
+        return Row::MISSING;
+    }
+    words::narrowed(z)
+}
+
+// The samples of the places, and zeros.
 fn samples_of(zs: &[i64]) -> [i32; 96]
-    requires { ⌜ (length (now zs) ≤ 96) × ((i : _) → i < length (now zs) → mag (getD (now zs) i (pos 0)) < 2 ^ 31) ⌝ }
-    ensures { λ r. ⌜ r ≡ padded (λ i. getD (now (zs .entry)) i (pos 0)) (length (now (zs .entry))) 96 (pos 0) ⌝ }
+    requires { ⌜ (length (now zs) ≤ 96) × ((i : _) → i < length (now zs) → isNone (getD (now zs) i (pos 0)) ≡ false → mag (getD (now zs) i (pos 0)) < 2 ^ 31) ⌝ }
+    ensures { λ r. ⌜ r ≡ padded (λ i. placeSample (getD (now (zs .entry)) i (pos 0))) (length (now (zs .entry))) 96 (pos 0) ⌝ }
 {
     let mut out = [0i32; 96];
     let mut i = 0;
     while i < zs.len() {
-        out[i] = words::narrowed(zs[i]);
+        out[i] = place_sample(zs[i]);
         i += 1;
     }
     out

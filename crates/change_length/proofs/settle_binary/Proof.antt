@@ -15,7 +15,7 @@ use Rattle.change_length.proofs.settle_binary.Statement.{statement}
 use Rattle.change_length.proofs.settle_binary.Tie as tie
 
 all-fit-requires : tie.Need-all-fit-requires
-all-fit-requires c κs = (c .before .pre .0, whole (c .before .args .layout) (c .before .args .«data» .now) (c .before .pre .1) .0)
+all-fit-requires c κs = (c .before .pre .0, whole (c .before .args .layout) (c .before .args .«data» .now) (c .before .pre .1) .0, c .before .pre .2)
 
 enum-told : tie.Need-enum-told
 enum-told c = search needs

@@ -62,7 +62,7 @@ small : (c : tie.After-first-misfit) → c .first-misfit .result ≤ 96
 small c =
     let a = c .before .before .before .before .before .before .before .args in
     let s = fit (c .before .before .before .before .before) in
-    rw (c .first-misfit .ensures) (omega (arith, misfit-le (a .layout .kind) (a .row .samples) (a .layout .analogs)))
+    rw (c .first-misfit .ensures) (omega (arith, misfit-le (a .layout) (a .row .samples)))
 
 cast-field : tie.Need-cast-field
 cast-field c = omega (arith, small c)

@@ -1,21 +1,21 @@
--- `put_sample` meets its contract: a space, and the plain decimal fills the part that is its length.
-use mathlib.Core.Path.{_≡_, ap, _∙_}
-use Prim.Native.Nat.{_+_, _≤_}
+-- `put_sample` meets its contract: a number, an x, or nothing, by what the sample is.
+use mathlib.Core.Path.{_≡_}
 use native.Mathlib.Omega.{arith}
 use borrow.Author.Needs.{needs}
-use lib.IntN.{ℤ}
-use lib.ListN.{length}
-use mir.Syntax.{w64}
+use mir.Syntax.{w32}
 use mir.Val.{toZ, ofZ}
-use Rattle.words.proofs.MachineLaws.{widened-back}
-use Rattle.numerals.specs.Decimals.{plain}
-use Rattle.ascii_plain.proofs.LengthLaws.{plain-short}
-use Rattle.pieces.proofs.Laws.{put-then, put-part}
+use Rattle.list_lines.specs.Lines.{sampleWord}
 use Rattle.list_lines.proofs.put_sample.Statement.{statement}
 use Rattle.list_lines.proofs.put_sample.Tie as tie
 
-widened-requires : tie.Need-widened-requires
-widened-requires c κs = search needs
+enum-known-sample : tie.Need-enum-known-sample
+enum-known-sample c = search needs
+
+put-number-requires : tie.Need-put-number-requires
+put-number-requires c κs = search needs
+
+enum-told : tie.Need-enum-told
+enum-told c = search needs
 
 slice-aggregate-put-all : tie.Need-slice-aggregate-put-all
 slice-aggregate-put-all c = search needs
@@ -23,64 +23,58 @@ slice-aggregate-put-all c = search needs
 put-all-requires : tie.Need-put-all-requires
 put-all-requires c κs = search needs
 
-plain-length-requires : tie.Need-plain-length-requires
-plain-length-requires c κs = search needs
+enum-told-2 : tie.Need-enum-told-2
+enum-told-2 c = search needs
 
--- the sample, as the machine keeps it, and how long it is
-back : (c : tie.After-plain-length) → let w = c .before .before .before .before .before .before in toZ w64 (ofZ w64 (w .widened .result)) ≡ w .before .before .args .z
-back c =
-    let w = c .before .before .before .before .before .before in
-    let s = w .before .before in
-    widened-back (s .args .z) (w .widened .result) (s .fits .z) (w .widened .ensures)
+slice-aggregate-put-all-2 : tie.Need-slice-aggregate-put-all-2
+slice-aggregate-put-all-2 c = search needs
 
-short : (c : tie.After-plain-length)
-    → let p = c .before .before .before .put-all in let a = c .before .before .before .before .before .before .before .before .args in
-    (c .plain-length .result ≡ length (plain (a .z))) × (c .plain-length .result ≤ 11) × (p .result ≡ a .n + 1)
-short c =
-    let s = c .before .before .before .before .before .before .before .before in
-    let e = c .plain-length .ensures ∙ ap (λ (z : ℤ). length (plain z)) (back c) in
-    (e, omega (arith, plain-short (s .args .z) (s .fits .z .sfits)), c .before .before .before .put-all .ensures .end)
-
-add-to : tie.Need-add-to
-add-to c = omega (arith, short c .1, short c .2)
-
-sub-put-plain : tie.Need-sub-put-plain
-sub-put-plain c = search needs
-
-part-put-plain-start : tie.Need-part-put-plain-start
-part-put-plain-start c = search needs
-
-part-put-plain-end : tie.Need-part-put-plain-end
-part-put-plain-end c = omega (arith, short c .1, short c .2)
-
-put-plain-requires : tie.Need-put-plain-requires
-put-plain-requires c κs = search needs
+put-all-requires-2 : tie.Need-put-all-requires-2
+put-all-requires-2 c κs = search needs
 
 same-length : tie.Need-same-length
 same-length c = search needs
 
 returns : tie.Need-returns
+unfolding sampleWord
 returns c =
-    let k = c .before .before .before .before in
-    let z = k .before .before .before .before .before .before .before .before .args .z in
-    let p = k .before .before .before .put-all in
-    let e = short k in
-    let y : c .before .before .put-plain .last .0 ≡ plain z = c .before .before .put-plain .ensures ∙ ap plain (back k) in
-    let q = put-part (p .last .0) (plain z) (p .result) (p .result + k .plain-length .result) (omega arith) (omega arith) in
-    (put-then (p .ensures) (rw y q), omega arith)
+    let s = c .before .before .before .before .before .sample in
+    let k : toZ w32 (ofZ w32 (s .given .0 .0)) ≡ s .given .0 .0 = search needs in
+    rw (s .given .1) (rw k at (c .before .before .put-number .ensures))
+
+same-length-2 : tie.Need-same-length-2
+same-length-2 c = search needs
+
+returns-2 : tie.Need-returns-2
+unfolding sampleWord
+returns-2 c =
+    let p = c .before .before .put-all .ensures in
+    rw (c .before .before .before .before .before .enum-told .given .1) (p, omega (arith, p .end))
+
+same-length-3 : tie.Need-same-length-3
+same-length-3 c = search needs
+
+returns-3 : tie.Need-returns-3
+unfolding sampleWord
+returns-3 c =
+    let p = c .before .before .put-all2 .ensures in
+    rw (c .before .before .before .before .before .enum-told2 .given .1) (p, omega (arith, p .end))
 
 pub put-sample-spec : {M : Type 1} → statement M
 put-sample-spec =
     tie.close
     (tie.spec
-    widened-requires
+    enum-known-sample
+    put-number-requires
+    enum-told
     slice-aggregate-put-all
     put-all-requires
-    plain-length-requires
-    add-to
-    sub-put-plain
-    part-put-plain-start
-    part-put-plain-end
-    put-plain-requires
+    enum-told-2
+    slice-aggregate-put-all-2
+    put-all-requires-2
     same-length
-    returns)
+    returns
+    same-length-2
+    returns-2
+    same-length-3
+    returns-3)

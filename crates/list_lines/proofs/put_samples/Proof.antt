@@ -4,9 +4,6 @@ use Prim.Native.Nat.{_+_, _-_, _*_, _≤_}
 use native.Mathlib.Omega.{arith}
 use borrow.Author.Needs.{needs}
 use lib.ListN.{length}
-use mir.Syntax.{w32}
-use mir.Val.{toZ, ofZ}
-use Rattle.model.specs.Rows.{sampleAt, sampleValue}
 use Rattle.list_lines.specs.Lines.{spacedSamples}
 use Rattle.pieces.specs.Inner.{Put}
 use Rattle.pieces.proofs.Laws.{put-none, put-then, put-as}
@@ -27,23 +24,14 @@ loop-holds c = (omega arith, refl, omega arith, put-none (c .before .args .out .
 add-i : tie.Need-add-i Inv-loop μ-loop
 add-i c = search needs
 
-sample-of-requires : tie.Need-sample-of-requires Inv-loop μ-loop
-sample-of-requires c κs = search needs
+sample-requires : tie.Need-sample-requires Inv-loop μ-loop
+sample-requires c κs = search needs
 
 put-sample-requires : tie.Need-put-sample-requires Inv-loop μ-loop
 put-sample-requires c κs = search needs
 
 loop-less : tie.Need-loop-less Inv-loop μ-loop
 loop-less c = search needs
-
--- the sample that is put
-kept : (c : tie.After-slice-known2 Inv-loop μ-loop)
-    → let s = c .before .before .before .sample-of in let p = c .before .before .before .before .before .before in
-    toZ w32 (ofZ w32 (s .result)) ≡ sampleValue (sampleAt (p .loop .i + 1) (p .before .before .args .row))
-kept c =
-    let s = c .before .before .before .sample-of in
-    let k : toZ w32 (ofZ w32 (s .result)) ≡ s .result = search needs in
-    k ∙ s .ensures
 
 loop-again : tie.Need-loop-again Inv-loop μ-loop
 loop-again c =
@@ -53,7 +41,7 @@ loop-again c =
       omega arith,
       q .kept .0 ∙ p .inv .1,
       omega arith,
-      put-as (put-then (p .inv .3) (q .ensures .0)) (rw (kept c) (spaced-samples-next (b .before .before .args .row) (p .i))),
+      put-as (put-then (p .inv .3) (q .ensures .0)) (rw (c .before .before .before .sample .ensures) (spaced-samples-next (b .before .before .args .row) (p .i))),
     )
 
 same-length : tie.Need-same-length Inv-loop μ-loop
@@ -70,7 +58,7 @@ put-samples-spec =
     μ-loop
     loop-holds
     add-i
-    sample-of-requires
+    sample-requires
     put-sample-requires
     loop-less
     loop-again

@@ -37,12 +37,12 @@ returns c =
 cast-if2 : tie.Need-cast-if2
 cast-if2 c = search needs
 
-holds-requires : tie.Need-holds-requires
-holds-requires c κs = search needs
+fits-sample-requires : tie.Need-fits-sample-requires
+fits-sample-requires c κs = search needs
 
 returns-2 : tie.Need-returns-2
 unfolding fitsPlace
-returns-2 c = rw (c .holds .ensures, le-ltb _ _ (c .before .before .before .if1 .left), le-leb _ _ (c .before .if2 .taken), read (c .before .before .before .before))
+returns-2 c = rw (c .fits-sample .ensures, le-ltb _ _ (c .before .before .before .if1 .left), le-leb _ _ (c .before .if2 .taken), read (c .before .before .before .before))
 
 up-to-requires-2 : tie.Need-up-to-requires-2
 up-to-requires-2 c κs = search needs
@@ -54,4 +54,4 @@ returns-3 c = rw (c .up-to2 .ensures, le-ltb _ _ (c .before .before .before .if1
 pub fits-place-spec : {M : Type 1} → statement M
 fits-place-spec =
     tie.close
-    (tie.spec cast-plus plus-requires up-to-requires returns cast-if2 holds-requires returns-2 up-to-requires-2 returns-3)
+    (tie.spec cast-plus plus-requires up-to-requires returns cast-if2 fits-sample-requires returns-2 up-to-requires-2 returns-3)

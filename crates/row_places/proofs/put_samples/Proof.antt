@@ -6,13 +6,14 @@ use mir.ValLaws.{toZ-ofZ}
 use native.Mathlib.Omega.{arith}
 use Prim.Native.Nat.{_-_}
 use lib.ListN.{length, getD, length-set}
-use mathlib.Core.Path.{_∙_}
+use mathlib.Core.Path.{ap, _∙_}
 use borrow.Author.Needs.{needs}
+use Rattle.row_places.specs.Rows.{samplePlace}
 use Rattle.row_places.proofs.put_samples.Statement.{statement}
 use Rattle.row_places.proofs.put_samples.Tie as tie
 
 abbrev Inv-loop : tie.InvT-loop
-Inv-loop zs d₀ i₀ d i = Filled (λ i. getD zs i (pos 0)) d₀ i d
+Inv-loop zs d₀ i₀ d i = Filled (λ i. samplePlace (getD zs i (pos 0))) d₀ i d
 
 abbrev μ-loop : tie.MeasureT-loop
 μ-loop zs d₀ i₀ d i = length d - i
@@ -20,14 +21,14 @@ abbrev μ-loop : tie.MeasureT-loop
 loop-holds : tie.Need-loop-holds Inv-loop μ-loop
 loop-holds c = search needs
 
-mul-widened : tie.Need-mul-widened Inv-loop μ-loop
-mul-widened c = search needs
+mul-sample-place : tie.Need-mul-sample-place Inv-loop μ-loop
+mul-sample-place c = search needs
 
-shared-slice-copy-out-widened : tie.Need-shared-slice-copy-out-widened Inv-loop μ-loop
-shared-slice-copy-out-widened c = search needs
+shared-slice-copy-out-sample-place : tie.Need-shared-slice-copy-out-sample-place Inv-loop μ-loop
+shared-slice-copy-out-sample-place c = search needs
 
-widened-requires : tie.Need-widened-requires Inv-loop μ-loop
-widened-requires c κs = search needs
+sample-place-requires : tie.Need-sample-place-requires Inv-loop μ-loop
+sample-place-requires c κs = search needs
 
 mul-t9 : tie.Need-mul-t9 Inv-loop μ-loop
 mul-t9 c = search needs
@@ -45,8 +46,8 @@ loop-again : tie.Need-loop-again Inv-loop μ-loop
 loop-again c =
     let b = c .before .before .before in
     let s = b .before in
-    fill-next (λ i. getD (s .args .zs .now) i (pos 0)) (s .args .d .now) (b .loop .d) (b .loop .i) (b .loop .inv) _ (c .before .before .loop-test .taken)
-    (toZ-ofZ w64 (c .widened .result) (record { sfits = c .widened .ok }) ∙ c .widened .ensures ∙ toZ-ofZ w32 _ (record { sfits = c .before .widened-arg .given }))
+    fill-next (λ i. samplePlace (getD (s .args .zs .now) i (pos 0))) (s .args .d .now) (b .loop .d) (b .loop .i) (b .loop .inv) _ (c .before .before .loop-test .taken)
+    (toZ-ofZ w64 (c .sample-place .result) (record { sfits = c .sample-place .ok }) ∙ c .sample-place .ensures ∙ ap samplePlace (toZ-ofZ w32 _ (record { sfits = c .before .sample-place-arg .given })))
 
 same-length : tie.Need-same-length Inv-loop μ-loop
 same-length c = c .before .loop .inv .1
@@ -55,7 +56,7 @@ returns : tie.Need-returns Inv-loop μ-loop
 returns c =
     let b = c .before in
     let s = b .before in
-    filled (λ i. getD (s .args .zs .now) i (pos 0)) (s .args .d .now) (b .loop .d) (b .loop .i) (b .loop .inv) (omega arith)
+    filled (λ i. samplePlace (getD (s .args .zs .now) i (pos 0))) (s .args .d .now) (b .loop .d) (b .loop .i) (b .loop .inv) (omega arith)
 
 pub put-samples-spec : {M : Type 1} → statement M
 put-samples-spec =
@@ -64,9 +65,9 @@ put-samples-spec =
     Inv-loop
     μ-loop
     loop-holds
-    mul-widened
-    shared-slice-copy-out-widened
-    widened-requires
+    mul-sample-place
+    shared-slice-copy-out-sample-place
+    sample-place-requires
     mul-t9
     slice-set-from-d
     add-i

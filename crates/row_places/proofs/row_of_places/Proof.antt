@@ -1,7 +1,7 @@
 -- `row_places::row_of_places` meets its contract: each part of the row is read from its places.
 use Rattle.row_places.proofs.UnfitLaws.{time-small, sample-small}
 use Rattle.row_places.proofs.RowLaws.{part-at, filled-part}
-use Rattle.row_places.specs.Rows.{rowOfPlaces}
+use Rattle.row_places.specs.Rows.{placeSample, rowOfPlaces}
 use Rattle.ground.proofs.Parts.{length-part-le}
 use mathlib.Core.Path.{_≡_, ap, _∙_}
 use mathlib.Core.Bool.{false}
@@ -76,7 +76,7 @@ returns c =
     let s = c .before .before .before .before .before .before .before .before in
     let l = s .args .layout in
     let zs = s .args .zs .now in
-    let samples = c .before .before .samples-of .ensures ∙ filled-part (λ z. z) 1 (l .analogs) 96 zs (pos 0) (pos 0) (omega (arith, s .pre .1)) in
+    let samples = c .before .before .samples-of .ensures ∙ filled-part placeSample 1 (l .analogs) 96 zs (pos 0) (pos 0) (omega (arith, s .pre .1)) in
     let end = c .before .before .before .before .before .before .places-of .ensures in
     let statuses = rw end at (c .statuses-of .ensures) ∙ filled-part (ltZ (pos 0)) (1 + l .analogs) (l .statuses) 256 zs (pos 0) false (omega (arith, s .pre .1)) in
     rw (time (c .before .before .before .before), samples, statuses)

@@ -4,11 +4,11 @@
 --     data-refused           demands 1 and 2: a file is refused exactly when it is the data file of no rows
 --     row-refused            demands 1 and 2: a row is refused, with zeros beside it, exactly when the file is, or when there is no such row
 --     one-file               demand 2: a file is the data file of one row of rows alone
---     written-exactly        demand 2: a row is written exactly when its samples are in range
+--     written-exactly        demand 2: a row is written exactly when its samples are in range, or missing
 --     written-stands         demand 2: a row that was written, standing in a data file as row n, is shown as it was written, its places past A and D zero
 --     three-endings          demand 2: rows that were written, one after the other, and any of the endings are the data file of these rows
---     refused-outside        demand 3: a change is refused with 16 at a sample exactly when that is the first outside the new kind's range
---     refused-short          demand 3: and with 17 exactly when every sample is in range and there is no room for the new file
+--     refused-outside        demand 3: a change is refused with 16 at a sample exactly when that is the first that is there and outside the new kind's range
+--     refused-short          demand 3: and with 17 exactly when every sample that is there is in range and there is no room for the new file
 --     refused-only           demand 3: and with nothing else
 --     change-done            demand 3: else the new file is the data file of the same rows, and changing back gives the first file, or the plain text with its rows
 --     plain-only             demand 3: of which there is one
@@ -51,7 +51,7 @@ use Rattle.exact_data.proofs.ChangeLaws.{none-first, one-first, new-file, new-s
 writes : (l : Layout) (n : ℕ) (r : Row) (room : ℕ) (b : List ℕ) → r .time ≤ latestTime → writeSaid l n r room ≡ says b → Writes l r
 writes l n r room b h e = record { time = omega arith; all = writable l n r room b e .all }
 
--- DEMAND 2. A row, the n-th of a sized layout, whose timestamp has 32 bits, is written where there is room exactly when each of its samples is in the kind's range
+-- DEMAND 2. A row, the n-th of a sized layout, whose timestamp has 32 bits, is written where there is room exactly when each of its samples is in the kind's range, or missing
 pub written-exactly : (l : Layout) (n : ℕ) (r : Row) → Sized l → 1 ≤ n → n ≤ l .rows → r .time ≤ latestTime
     → Fitting l r ↔ ((b : List ℕ) × ((room : ℕ) → length b ≤ room → writeSaid l n r room ≡ says b))
 unfolding writeSaid hasRow
@@ -127,7 +127,7 @@ module _ (l : Layout) (r : ℕ → Row) (s : List ℕ) (k : Kind) (room : ℕ) (
       (λ a. let y = one-first l k r (a .0) (a .1) i j (a .2) f in rw (← y .0, ← y .1) (a .3)))
       (told l r s size bytes t k room)
 
-  -- DEMAND 3. A change is refused with 16 at row i + 1 and field 3 + j exactly when sample j of row i is the first below the lowest or above the highest of the new kind
+  -- DEMAND 3. A change is refused with 16 at row i + 1 and field 3 + j exactly when sample j of row i is the first that is there and below the lowest or above the highest of the new kind
   pub refused-outside : (i j : ℕ) → changeSaid l s k room ≡ refuses (refused 16 (i + 1) (3 + j)) ↔ FirstOutside l k r i j
   refused-outside i j = (outside-to i j, outside-from i j)
 
@@ -159,7 +159,7 @@ module _ (l : Layout) (r : ℕ → Row) (s : List ℕ) (k : Kind) (room : ℕ) (
       (λ a. absurd (none-first l k r (a .0) (a .1) all (a .2))))
       (told l r s size bytes t k room)
 
-  -- DEMAND 3. And with 17 exactly when every sample is in the new kind's range, and the new file does not find room
+  -- DEMAND 3. And with 17 exactly when every sample that is there is in the new kind's range, and the new file does not find room
   pub refused-short : changeSaid l s k room ≡ refuses (refused 17 0 0) ↔ (AllInRange l k r × (u : List ℕ) × NewFile u × (room < length u))
   refused-short = (short-to, λ a. short-from (a .0) (a .1) (a .2) (a .3))
 

@@ -1,33 +1,43 @@
 -- Demand 2 on the exported calls: what zl_config, zl_check and zl_row show is what the bytes are (crate `paper`), as places.
 --     config-shown     zl_config shows places exactly when the bytes are a configuration, there is room, and these are its places
 --     file-taken       zl_check says yes exactly when the kind has a number and the bytes are a data file of some rows
+--     none-exactly     a place that zl_row shows is the number for "there is none" exactly where it is that of a missing sample
 --     place-shown      zl_row shows places exactly when the bytes are the data file of rows, there is such a row and room, and these are its places
 -- Assumes nothing.
 use mathlib.Core.Path.{_≡_, refl, ap, _∙_}
-use mathlib.Core.Logic.{_↔_}
+use mathlib.Core.Logic.{_↔_, _⊎_}
 use mathlib.Core.Bool.{true}
 use mathlib.Core.List.{List}
-use Prim.Native.Nat.{ℕ, _-_, _≤_}
+use Prim.Native.Nat.{ℕ, _+_, _-_, _^_, _≤_, _<_}
+use native.Mathlib.Omega.{arith}
 use borrow.Author.Tests.{leb-true, le-leb}
 use lib.Dec.{leb}
-use lib.IntN.{ℤ}
+use lib.IntN.{ℤ, pos}
+use lib.ListN.{getD}
+use lib.Signed.{mag}
 use Rattle.ground.specs.Said.{says, _>>_}
 use Rattle.ground.specs.Tables.{every}
-use Rattle.ground.proofs.Cases.{clash}
+use Rattle.ground.proofs.Cases.{on-test, clash}
 use Rattle.ground.proofs.SaidLaws.{must-told, bind-told}
 use Rattle.words.specs.Words.{isByte}
 use Rattle.model.specs.declared.Kind.{Kind}
 use Rattle.model.specs.declared.KindNo.{KindNo}
 use Rattle.model.specs.declared.KindNo.the-variants as number
+use Rattle.model.specs.declared.Layout.{Layout}
 use Rattle.model.specs.declared.Row.{Row}
+use Rattle.model.specs.declared.Sample.the-variants.{Is, Missing}
 use Rattle.model.specs.Kinds.{kindOf}
 use Rattle.model.specs.Layouts.{Sized}
 use Rattle.model.specs.Refusals.{refused, answerSaid}
+use Rattle.model.specs.Samples.{isMissing, none, sampleOf}
+use Rattle.model.specs.Rows.{sampleAt}
+use Rattle.model.proofs.SampleLaws.{fits-small}
 use Rattle.config_rules.specs.declared.Config.{Config}
 use Rattle.config.specs.Config.{readConfig}
 use Rattle.data.specs.declared.RowAnswer.{RowAnswer}
 use Rattle.data.specs.Files.{rowAt, checkFile, rowAnswer, showRow}
 use Rattle.row_places.specs.Rows.{placesOf, rowPlaces}
+use Rattle.row_places.proofs.RowLaws.{shown-none, sample-at, other-at}
 use Rattle.config_places.specs.Configs.{configPlaces}
 use Rattle.answers.specs.Answers.{kindSaid, layoutBy, placed}
 use Rattle.config.specs.Said.{configSaid}
@@ -36,10 +46,13 @@ use Rattle.calls_data.specs.Calls.{checkCall, rowSaid, rowCall}
 use Rattle.calls_data.specs.Inner.{rowIn}
 use Rattle.model.proofs.AnswerLaws.{yes-said}
 use Rattle.paper.specs.Configuration.{Configuration}
-use Rattle.paper.specs.Data.{DataFile}
+use Rattle.paper.specs.Data.{rowSample, DataFile}
 use Rattle.config.proofs.SaidLaws.{config-said}
 use Rattle.exact_config.proofs.ExactLaws.{config-exactly}
+use Rattle.exact_data.proofs.NumberLaws.{fits-exactly}
 use Rattle.exact_data.proofs.FileLaws.{data-exactly, row-shown, accepted-rows}
+use Rattle.exact_data.proofs.ChangeLaws.{own-range}
+use Rattle.demands.proofs.Missing.{sample-shown}
 
 row-said : (a : RowAnswer) (r : Row) → rowSaid a ≡ says r → a ≡ rowAnswer (says r)
 row-said a r e = let w = yes-said (a .answer) (a .row) r e in rw (← w .0, ← w .1)
@@ -113,3 +126,43 @@ module _ (a d rows kind : ℕ) (s : List ℕ) (bytes : every isByte s ≡ true) 
   -- DEMAND 2. zl_row
   pub place-shown : (n room : ℕ) (zs : List ℤ) → rowCall a d rows kind s n room ≡ says zs ↔ RowHere n room zs
   place-shown n room zs = (place-to n room zs, place-from n room zs)
+
+  -- the places of an accepted row: those of samples, and the others
+  module _ (k : Kind) (r : ℕ → Row) (f : FileHere k r) (n : ℕ) (there : (1 ≤ n) × (n ≤ rows)) where
+    abbrev l : Layout
+    l = layoutBy a d rows k
+
+    sample-small : (j : ℕ) → j < a → mag (getD (r (n - 1) .samples) j (pos 0)) < 2 ^ 31
+    sample-small j h =
+        let z = getD (r (n - 1) .samples) j (pos 0) in
+        fits-small l z (fits-exactly l z .1 (own-range l r s (f .1) bytes (f .2) (n - 1) j (omega (arith, there .0, there .1)) h))
+
+    sample-none : (j : ℕ) → j < a → getD (rowPlaces l (r (n - 1))) (1 + j) (pos 0) ≡ none ↔ rowSample (r (n - 1)) j ≡ Missing
+    unfolding sampleOf
+    sample-none j h =
+        let z = getD (r (n - 1) .samples) j (pos 0) in
+        let w = shown-none z (sample-small j h) in
+        rw (sample-at l (r (n - 1)) j h) (
+          (λ e. rw (w .0 e)),
+          (λ e. on-test (isMissing z) (w .1) (λ t. let q : Is z ≡ Missing = rw t at e in clash (cc))),
+        )
+
+    -- the places of the row, by another name
+    none-told : (zs : List ℤ) → zs ≡ rowPlaces l (r (n - 1)) → (j : ℕ) → 1 ≤ j → j ≤ a → getD zs j (pos 0) ≡ none ↔ sampleAt j (r (n - 1)) ≡ Missing
+    none-told zs q j x y =
+        let p : 1 + (j - 1) ≡ j = omega arith in
+        rw (q, sample-shown (r (n - 1)) j x (omega (arith, f .1 .analogs))) (rw p at (sample-none (j - 1) (omega arith)))
+
+    other-told : (zs : List ℤ) → zs ≡ rowPlaces l (r (n - 1)) → (j : ℕ) → (j < 1) ⊎ (1 + a ≤ j) → getD zs j (pos 0) ≡ none → ⊥
+    other-told zs q j x = rw q (other-at l (r (n - 1)) j x)
+
+  -- DEMAND 2. A place that zl_row shows is the number for "there is none" exactly where it is that of a sample, and the row says that it is missing
+  pub none-exactly : (n room : ℕ) (zs : List ℤ) → rowCall a d rows kind s n room ≡ says zs
+      → (k : Kind) × (r : Row) × (showRow (layoutBy a d rows k) s n ≡ rowAnswer (says r))
+      × ((j : ℕ) → 1 ≤ j → j ≤ a → getD zs j (pos 0) ≡ none ↔ sampleAt j r ≡ Missing)
+      × ((j : ℕ) → (j < 1) ⊎ (1 + a ≤ j) → getD zs j (pos 0) ≡ none → ⊥)
+  none-exactly n room zs e =
+      let (k, r, f, h, m, w, q) = place-to n room zs e in
+      let l = layoutBy a d rows k in
+      let row = r (n - 1) in
+      (k, row, row-shown l s bytes n row .1 (r, f .1, f .2, h, m, refl), none-told k r f n (h, m) zs q, other-told k r f n (h, m) zs q)

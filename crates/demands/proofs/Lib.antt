@@ -1,5 +1,6 @@
 pub mod Configurations
 pub mod Data
+pub mod Missing
 pub mod Rewritten
 pub mod Placed
 pub mod Calls

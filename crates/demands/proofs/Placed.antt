@@ -124,13 +124,13 @@ module _ (n : ℕ) (h : 1 ≤ n) where
   text-field k (count.Is v) = tt
   text-field k count.Form = (row-text n k h, lit≤ tt)
 
-  text-fields : (a : ℕ) (t : List ℕ) (k m : ℕ) → RefusesOnly (PlacedTo 16) (checkFields a n t k m)
+  text-fields : (l : Layout) (t : List ℕ) (k m : ℕ) → RefusesOnly (PlacedTo 16) (checkFields l n t k m)
   unfolding checkFields
-  text-fields a t k zero = tt
-  text-fields a t k (suc m) =
-      only-then (PlacedTo 16) (must (fieldFine a k (firstField t)) (refused 14 n k)) (checkFields a n (drop (fieldLength t + 1) t) (k + 1) m)
-      (only-must (PlacedTo 16) (fieldFine a k (firstField t)) (refused 14 n k) (λ e. (row-text n k h, lit≤ tt)))
-      (λ e. text-fields a (drop (fieldLength t + 1) t) (k + 1) m)
+  text-fields l t k zero = tt
+  text-fields l t k (suc m) =
+      only-then (PlacedTo 16) (must (fieldFine l k (firstField t)) (refused 14 n k)) (checkFields l n (drop (fieldLength t + 1) t) (k + 1) m)
+      (only-must (PlacedTo 16) (fieldFine l k (firstField t)) (refused 14 n k) (λ e. (row-text n k h, lit≤ tt)))
+      (λ e. text-fields l (drop (fieldLength t + 1) t) (k + 1) m)
 
   text-number : (t : List ℕ) → RefusesOnly (PlacedTo 16) (checkNumber n t)
   unfolding checkNumber
@@ -142,10 +142,10 @@ module _ (n : ℕ) (h : 1 ≤ n) where
   text-line : (l : Layout) (t : List ℕ) → RefusesOnly (PlacedTo 16) (checkLine l n t)
   unfolding checkLine
   text-line l t =
-      let others = checkFields (l .analogs) n (afterFields 1 t) 2 (1 + l .analogs + l .statuses) in
+      let others = checkFields l n (afterFields 1 t) 2 (1 + l .analogs + l .statuses) in
       only-then (PlacedTo 16) (must (eqb (fieldCount t) (fieldsOf l)) (refused 14 n 0)) (checkNumber n t >> others)
       (only-must (PlacedTo 16) (eqb (fieldCount t) (fieldsOf l)) (refused 14 n 0) (λ e. (row-text n 0 h, lit≤ tt)))
-      (λ e. only-then (PlacedTo 16) (checkNumber n t) others (text-number t) (λ f. text-fields (l .analogs) (afterFields 1 t) 2 (1 + l .analogs + l .statuses)))
+      (λ e. only-then (PlacedTo 16) (checkNumber n t) others (text-number t) (λ f. text-fields l (afterFields 1 t) 2 (1 + l .analogs + l .statuses)))
 
   text-found : (x : Scanned) → RefusesOnly (PlacedTo 16) (found n x)
   text-found (Line len taken) = tt
@@ -242,15 +242,15 @@ read-lasts none (suc m) before p h =
     read-bind (lastRows none m (v .0) (v .1)) _ (read-lasts none m (v .0) (v .1) k) (λ w i. read-done _ (w .1) i))
 
 -- a test before or after the lines
-read-holds : (t : Bool) (r : Refusal) (p : Place) → 1 ≤ p .0 → PlacedTo 9 r → Read (reading.holds t r p)
+read-asking : (t : Bool) (r : Refusal) (p : Place) → 1 ≤ p .0 → PlacedTo 9 r → Read (reading.asking t r p)
 unfolding Read
-read-holds true r p h k = h
-read-holds false r p h k = k
+read-asking true r p h k = h
+read-asking false r p h k = k
 
 all-read : (p : Place) → 1 ≤ p .0 → Read (configuration p)
 unfolding configuration
 all-read p h =
-    read-bind (size p) _ (read-holds (leb (length (p .1)) 65536) (refused 1 0 0) p h (configuration-size, lit≤ tt)) (λ z hz.
+    read-bind (size p) _ (read-asking (leb (length (p .1)) 65536) (refused 1 0 0) p h (configuration-size, lit≤ tt)) (λ z hz.
     read-bind (line stationLine (z .1)) _ (read-line stationLine station-ruled (z .1) hz) (λ a ha.
     read-bind (line channelsLine (a .1)) _ (read-line channelsLine channels-ruled (a .1) ha) (λ b hb.
     read-bind (times (b .0 .0) 1 (λ i. line (analogLine i)) (b .1)) _ (read-times analogLine analog-ruled (b .0 .0) 1 (b .1) hb) (λ c hc.
@@ -264,7 +264,7 @@ all-read p h =
     read-bind (line multiplierLine (k .1)) _ (read-line multiplierLine multiplier-ruled (k .1) hk) (λ l hl.
     read-bind (line codesLine (l .1)) _ (read-line codesLine codes-ruled (l .1) hl) (λ m hm.
     read-bind (lastLine qualityLine (m .1)) _ (read-last qualityLine quality-ruled (m .1) hm) (λ n hn.
-    read-bind (nothingMore (n .1)) _ (read-holds (eqb (length (n .1 .1)) 0) (refused 9 (n .1 .0) 0) (n .1) hn (bytes-after (n .1 .0) hn, lit≤ tt)) (λ o ho.
+    read-bind (nothingMore (n .1)) _ (read-asking (eqb (length (n .1 .1)) 0) (refused 9 (n .1 .0) 0) (n .1) hn (bytes-after (n .1 .0) hn, lit≤ tt)) (λ o ho.
     read-done _ (o .1) ho)))))))))))))))
 
 pub config-placed : (s : List ℕ) → RefusesOnly (PlacedTo 9) (saidOf (configuration (1, s)))

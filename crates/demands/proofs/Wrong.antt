@@ -15,6 +15,11 @@
 --     length-says-17                  the length question refuses with 17 where the change does
 --     minus-lost                      the code -0h30 is read as +30 minutes
 --     first-and-trigger-exchanged
+--     shows-a-number-always           no sample is ever missing
+--     repeats-the-sign                the lowest pattern of two bytes is widened as a number
+--     missing-fits-no-kind            a file with a missing sample is not changed
+--     spaces-taken-for-missing        a field of a space is taken as an empty one
+--     none-refused                    zl_write_row takes no missing sample
 --     refuses-every-writing           no configuration is written
 --     copies-the-configuration        a configuration is written as it stands, its old kind's word too
 --     shows-the-old-kind              what is written shows the kind that the configuration had
@@ -27,14 +32,14 @@ use Prim.Native.Nat.{ℕ, suc, _+_, _-_, _<_, _≤_}
 use native.Mathlib.Omega.{arith}
 use borrow.Author.Tests.{eqb-false, le-leb}
 use lib.Dec.{lit≤, eqb, leb}
-use lib.IntN.{pos, negℤ}
+use lib.IntN.{ℤ, pos, negℤ}
 use lib.ListN.{length, getD, take, drop, replicate}
 use Rattle.ground.specs.Quoted.{quoted}
 use Rattle.ground.specs.Said.{Said, says, refuses, _>>_, must, over}
 use Rattle.ground.proofs.Cases.{clash}
 use Rattle.ground.proofs.SaidLaws.{must-told, bind-told}
 use Rattle.words.specs.Words.{wordOf, wordBytes}
-use Rattle.words.specs.Signed.{signedOf, unsignedOf}
+use Rattle.words.specs.Signed.{signedOf, unsignedOf, isLowest}
 use Rattle.text.specs.Lines.{scanLine}
 use Rattle.text.specs.Fields.{fieldCount, afterFields, fieldAt}
 use Rattle.numerals.specs.Counts.{lengthIn, isDigit, numberOf, readCount}
@@ -47,10 +52,12 @@ use Rattle.model.specs.declared.Row.{Row}
 use Rattle.model.specs.declared.Refusal.{Refusal}
 use Rattle.model.specs.declared.Answer.{Answer}
 use Rattle.model.specs.declared.Answer.the-variants.{Yes, No}
-use Rattle.model.specs.Kinds.{fitsKind}
+use Rattle.model.specs.declared.Sample.the-variants.{Is, Missing}
+use Rattle.model.specs.Kinds.{kindOf}
+use Rattle.model.specs.Samples.{missing, isMissing, none, isNone, sampleOf, holds, fits, sampleOfWord, wordOfSample}
 use Rattle.model.specs.Layouts.{isSized, inKind}
 use Rattle.model.specs.Refusals.{refused}
-use Rattle.model.specs.Rows.{zeroRow, misfit}
+use Rattle.model.specs.Rows.{zeroRow, sampleAt, misfit}
 use Rattle.config_rules.specs.Shown.{withKind}
 use Rattle.config.specs.declared.ConfigAnswer.{ConfigAnswer}
 use Rattle.config.specs.Config.{readConfig}
@@ -62,7 +69,7 @@ use Rattle.binary_file.specs.Files.{checkBinary, binaryRow}
 use Rattle.ascii_row.specs.Fields.{readTimestamp, readSample, isStatus, timeIn, sampleIn, statusIn}
 use Rattle.ascii_row.specs.Rows as ascii
 use Rattle.ascii_row.specs.Rows.{fieldFine, checkFields, checkNumber, checkLine}
-use Rattle.ascii_plain.specs.Rows.{lineOf, textOf}
+use Rattle.ascii_plain.specs.Rows.{sampleChars, lineOf, textOf}
 use Rattle.ascii_file.specs.Files as ascii_file
 use Rattle.ascii_file.specs.Files.{takeRow, isEnding, checkText, firstLine, afterRows, textRow, mark}
 use Rattle.row_bytes.specs.Rows.{bytesOf}
@@ -71,6 +78,8 @@ use Rattle.change.specs.Change.{changeSaid}
 use Rattle.change_length.specs.Needed.{fitRow, fitRows, bytesNeeded, changed}
 use Rattle.change.proofs.ChangeLaws.{change-needs}
 use Rattle.change_length.proofs.LengthLaws.{needed-length}
+use Rattle.row_places.specs.Rows.{placeSample, upTo, fitsSample, fitsPlace, unfit, rowOfPlaces}
+use Rattle.calls_data.specs.Calls.{rowAsked, writeCall}
 use Rattle.rewrite.specs.Rewrite.{rewritten, rewriteSaid}
 use Rattle.exact_config.proofs.ExactLaws.{config-exactly}
 use Rattle.exact_rewrite.proofs.ExactLaws.{rewritten-exactly, written-accepted, never-long}
@@ -106,6 +115,16 @@ second-unfit = quoted "1,0,1\r\n2,0,32768\r\n"
 abbrev both-unfit : List ℕ
 both-unfit = quoted "1,0,32768\r\n2,0,32768\r\n"
 
+-- one row of one sample, which is missing, in every kind
+abbrev no-sample : List ℕ
+no-sample = 0x01 ∷ replicate 7 0 ++ 0x00 ∷ 0x80 ∷ []
+
+abbrev no-sample-wide : List ℕ
+no-sample-wide = 0x01 ∷ replicate 7 0 ++ 0x00 ∷ 0x00 ∷ 0x00 ∷ 0x80 ∷ []
+
+abbrev no-sample-text : List ℕ
+no-sample-text = quoted "1,0,\r\n\u{1a}\r\n"
+
 computed :
     -- T1 has two rows, in every kind
     ((checkFile (layout 1 1 1 Ascii) t1 ≡ No (refused 11 2 0))
@@ -131,15 +150,28 @@ computed :
     × (changeSaid (layout 1 0 2 Ascii) both-unfit Binary 0 ≡ refuses (refused 16 1 3))
     × (length (changed (layout 1 0 2 Ascii) both-unfit Binary) ≡ 20)
     × (fitRow (layout 1 0 2 Binary) 2 (rowAt (layout 1 0 2 Ascii) both-unfit 1) ≡ refuses (refused 16 2 3)))
+    -- a sample is missing
+    × ((checkFile (layout 1 0 1 Binary) no-sample ≡ Yes)
+    × (sampleAt 1 (showRow (layout 1 0 1 Binary) no-sample 1 .row) ≡ Missing)
+    × (changeSaid (layout 1 0 1 Binary) no-sample Binary32 12 ≡ says no-sample-wide)
+    × (changeSaid (layout 1 0 1 Binary32) no-sample-wide Ascii 9 ≡ says no-sample-text)
+    × (checkFile (layout 1 0 1 Ascii) (quoted "1,0,\r\n") ≡ Yes)
+    × (checkFile (layout 1 0 1 Ascii) (quoted "1,0, \r\n") ≡ No (refused 14 1 3))
+    × (checkFile (layout 1 0 1 Ascii) (quoted "1,0,-2147483648\r\n") ≡ No (refused 14 1 3))
+    × (changeSaid (layout 1 0 1 Ascii) (quoted "1,0,-32768\r\n") Binary 10 ≡ refuses (refused 16 1 3))
+    × (writeCall 1 0 1 1 1 (pos 0 ∷ none ∷ []) 10 ≡ says no-sample)
+    × (writeCall 1 0 1 2 1 (pos 0 ∷ missing ∷ []) 12 ≡ refuses (refused 16 1 3)))
 unfolding checkFile showRow writeSaid isSized hasRow fileFine rowAt checkText ascii_file.checkLines takeRow isEnding scanLine firstLine afterRows textRow fieldCount afterFields fieldAt
-    checkLine checkNumber checkFields fieldFine ascii.rowOf readTimestamp readSample isStatus timeIn sampleIn statusIn lengthIn isDigit numberOf readCount signLength hasMinus withSign signedNumber readWhole fitsKind
-    changeSaid fitRows misfitOf misfit rowSize changed fileOf endMark bytesOf binaryOf packed wordBytes wordOf signedOf unsignedOf
-    checkBinary binary_file.checkRows binaryRow binary.rowOf binary.checkRow decimalIn decimal plain lineOf textOf
+    checkLine checkNumber checkFields fieldFine ascii.rowOf readTimestamp readSample isStatus timeIn sampleIn statusIn lengthIn isDigit numberOf readCount signLength hasMinus withSign signedNumber readWhole isLowest isMissing holds fits
+    changeSaid fitRows misfitOf misfit rowSize changed fileOf endMark bytesOf binaryOf packed wordBytes wordOf signedOf unsignedOf sampleOfWord wordOfSample
+    checkBinary binary_file.checkRows binaryRow binary.rowOf binary.checkRow decimalIn decimal plain sampleChars lineOf textOf
+    sampleOf sampleAt kindOf writeCall rowAsked unfit fitsPlace fitsSample isNone upTo placeSample rowOfPlaces
 computed = (
   (refl, refl, refl, refl, refl),
   (refl, refl, refl),
   (refl, refl, refl, refl),
   (refl, refl, refl, refl, refl, refl, refl, refl),
+  (refl, refl, refl, refl, refl, refl, refl, refl, refl, refl),
 )
 
 -- no answer is yes and no
@@ -160,8 +192,8 @@ one-refusal : (x : Said Refusal (List ℕ)) (p q : Refusal) → x ≡ refuses p 
 one-refusal x p q e f = (sym (ap (λ y. given y .number) e) ∙ ap (λ y. given y .number) f, sym (ap (λ y. given y .at) e) ∙ ap (λ y. given y .at) f)
 
 -- what a buffer holds where this was said
-abbrev holds : List ℕ → List ℕ → List ℕ
-holds new out = new ++ drop (length new) out
+abbrev filledBy : List ℕ → List ℕ → List ℕ
+filledBy new out = new ++ drop (length new) out
 
 -- a buffer of so many zeros
 abbrev blank : ℕ → List ℕ
@@ -215,8 +247,8 @@ a-row-less-accepted f = yes-no (checkFile (layout 1 1 3 Ascii) t1) (refused 14 3
 pub writes-nothing : ((l : Layout) (n : ℕ) (r : Row) (out : List ℕ) → over (writeSaid l n r (length out)) out ≡ out) → ⊥
 writes-nothing f =
     let out = blank 12 in
-    let e : holds (take 12 t2) out ≡ out = rw (computed .1 .0) at (f (of-t1 Binary) 1 row-1 out) in
-    differ (holds (take 12 t2) out) out 0 refl e
+    let e : filledBy (take 12 t2) out ≡ out = rw (computed .1 .0) at (f (of-t1 Binary) 1 row-1 out) in
+    differ (filledBy (take 12 t2) out) out 0 refl e
 
 pub changes-nothing : ((l : Layout) (s : List ℕ) (k : Kind) (out : List ℕ) → over (changeSaid l s k (length out)) out ≡ out) → ⊥
 changes-nothing f =
@@ -239,8 +271,8 @@ pub copies-unchanged : ((l : Layout) (s : List ℕ) (k : Kind) (out new : List �
 copies-unchanged f =
     let out = blank 27 in
     let c = more-room (of-t1 Ascii) t1 Binary 24 27 t2 (vectors .1 .1) (lit≤ tt) in
-    let e : holds t2 out ≡ t1 ++ drop 27 out = rw c at (f (of-t1 Ascii) t1 Binary out t2 c (lit≤ tt)) in
-    differ (holds t2 out) (t1 ++ drop 27 out) 0 refl e
+    let e : filledBy t2 out ≡ t1 ++ drop 27 out = rw c at (f (of-t1 Ascii) t1 Binary out t2 c (lit≤ tt)) in
+    differ (filledBy t2 out) (t1 ++ drop 27 out) 0 refl e
 
 pub row-1-and-the-rest-invented : ((l : Layout) (s t : List ℕ) (k : Kind) (room : ℕ) (new other : List ℕ) → showRow l s 1 ≡ showRow l t 1
     → changeSaid l s k room ≡ says new → changeSaid l t k room ≡ says other → new ≡ other)
@@ -278,8 +310,8 @@ pub clears-the-tail : ((l : Layout) (n : ℕ) (r : Row) (out new : List ℕ) →
 clears-the-tail f =
     let out : List ℕ = replicate 13 1 in
     let new = take 12 t2 in
-    let e : holds new out ≡ new ++ 0 ∷ [] = rw (computed .1 .1) at (f (of-t1 Binary) 1 row-1 out new (computed .1 .1)) in
-    differ (holds new out) (new ++ 0 ∷ []) 12 refl e
+    let e : filledBy new out ≡ new ++ 0 ∷ [] = rw (computed .1 .1) at (f (of-t1 Binary) 1 row-1 out new (computed .1 .1)) in
+    differ (filledBy new out) (new ++ 0 ∷ []) 12 refl e
 
 pub end-mark-with-a-row : ((l : Layout) (n : ℕ) (r : Row) (room : ℕ) (new : List ℕ) → l .kind ≡ Ascii → n ≡ l .rows → writeSaid l n r room ≡ says new
     → drop (length new - 3) new ≡ mark)
@@ -308,6 +340,36 @@ pub length-says-17 : ((l : Layout) (s : List ℕ) (k : Kind) (room : ℕ) (r : R
 length-says-17 f =
     let e : changeSaid (of-t1 Ascii) t1 Binary 0 ≡ refuses (refused 17 0 0) = change-needs (of-t1 Ascii) t1 Binary 0 ∙ rw (vectors .1 .0) in
     never-17 (of-t1 Ascii) t1 Binary (refused 17 0 0) (f (of-t1 Ascii) t1 Binary 0 (refused 17 0 0) e) refl
+
+pub shows-a-number-always : ((l : Layout) (s : List ℕ) (m n : ℕ) → checkFile l s ≡ Yes → hasRow l m ≡ true → 1 ≤ n → n ≤ l .analogs
+    → (z : ℤ) × (sampleAt n (showRow l s m .row) ≡ Is z))
+    → ⊥
+unfolding hasRow
+shows-a-number-always f =
+    let e = f (layout 1 0 1 Binary) no-sample 1 1 (computed .4 .0) refl (lit≤ tt) (lit≤ tt) in
+    let q : Missing ≡ Is (e .0) = sym (computed .4 .1) ∙ e .1 in
+    clash (cc)
+
+pub repeats-the-sign : ((l : Layout) (s u : List ℕ) (room : ℕ) → l .kind ≡ Binary → changeSaid l s Binary32 room ≡ says u → getD s 9 0 ≡ 0x80 → getD u 11 0 ≡ 0xFF) → ⊥
+repeats-the-sign f = eqb-false 0x80 0xFF refl (f (layout 1 0 1 Binary) no-sample no-sample-wide 12 refl (computed .4 .2) refl)
+
+pub missing-fits-no-kind : ((l : Layout) (s : List ℕ) (k : Kind) (room : ℕ) → checkFile l s ≡ Yes → sampleAt 1 (showRow l s 1 .row) ≡ Missing
+    → (r : Refusal) × (changeSaid l s k room ≡ refuses r))
+    → ⊥
+missing-fits-no-kind f =
+    let e = f (layout 1 0 1 Binary) no-sample Binary32 12 (computed .4 .0) (computed .4 .1) in
+    let q : says no-sample-wide ≡ refuses (e .0) = sym (computed .4 .2) ∙ e .1 in
+    clash (cc)
+
+pub spaces-taken-for-missing : ((l : Layout) (s : List ℕ) → checkFile l (quoted "1,0," ++ s) ≡ Yes → checkFile l (quoted "1,0, " ++ s) ≡ Yes) → ⊥
+spaces-taken-for-missing f =
+    yes-no (checkFile (layout 1 0 1 Ascii) (quoted "1,0, \r\n")) (refused 14 1 3) (f (layout 1 0 1 Ascii) (quoted "\r\n") (computed .4 .4)) (computed .4 .5)
+
+pub none-refused : ((a d rows kind n room : ℕ) (zs : List ℤ) → getD zs 1 (pos 0) ≡ none → (r : Refusal) × (writeCall a d rows kind n zs room ≡ refuses r)) → ⊥
+none-refused f =
+    let e = f 1 0 1 1 1 10 (pos 0 ∷ none ∷ []) refl in
+    let q : says no-sample ≡ refuses (e .0) = sym (computed .4 .8) ∙ e .1 in
+    clash (cc)
 
 -- the recording of the rules, with the time code -0h30
 pub minus-lost : readConfig (recordingWith "03/02/2024" "-0h30,0") .config .code ≡ pos 30 → ⊥

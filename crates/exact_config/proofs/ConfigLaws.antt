@@ -2,7 +2,7 @@
 --     ReadsLines                         a reader says a of the bytes s and leaves u exactly where R a s u
 --     reads-as                      the same in other words
 --     said-parts, in-line-told      what is said, and the place after it
---     done-reads, holds-reads       what takes nothing
+--     done-reads, asking-reads      what takes nothing
 --     bind-reads                    one reader after another
 --     line-reads, last-reads        a line by its rule; the last line, which may end with the file
 --     times-reads, lasts-reads      so many lines; the lines of rates
@@ -28,7 +28,7 @@ use Rattle.text.proofs.LineLaws.{line-found, last-line-found, line-ended, bytes
 use Rattle.line_fields.specs.declared.Fault.{Fault}
 use Rattle.config_lines.specs.Lines.{rateLine}
 use Rattle.model.specs.declared.Refusal.{Refusal}
-use Rattle.config.specs.Reading.{Place, Reader, inLine, scanned, done, holds, line, lastLine, times}
+use Rattle.config.specs.Reading.{Place, Reader, inLine, scanned, done, asking, line, lastLine, times}
 use Rattle.config.specs.Reading as paper
 use Rattle.config.specs.Config.{lastRows}
 use Rattle.paper.specs.Lines.{Line, ended, rateSign, RateLine}
@@ -74,8 +74,8 @@ bind-reads {A} {B} {r} {R} {next} {S} h g =
       );
     }
 
-pub holds-reads : (test : List ℕ → Bool) (refusal : ℕ → Refusal) → ReadsLines (λ p. holds (test (p .1)) (refusal (p .0)) p) (λ x s u. (test s ≡ true) × (s ≡ u))
-holds-reads test refusal =
+pub asking-reads : (test : List ℕ → Bool) (refusal : ℕ → Refusal) → ReadsLines (λ p. asking (test (p .1)) (refusal (p .0)) p) (λ x s u. (test s ≡ true) × (s ≡ u))
+asking-reads test refusal =
     record {
       exactly = λ n s x u. (
         λ (k, e). told n s k u (test s) (refusal n) x e,
@@ -83,7 +83,7 @@ holds-reads test refusal =
       );
     }
   where
-    told : (n : ℕ) (s : List ℕ) (k : ℕ) (u : List ℕ) (t : Bool) (r : Refusal) (x : Unit {0}) → holds t r (n, s) ≡ says (x, (k, u)) → (t ≡ true) × (s ≡ u)
+    told : (n : ℕ) (s : List ℕ) (k : ℕ) (u : List ℕ) (t : Bool) (r : Refusal) (x : Unit {0}) → asking t r (n, s) ≡ says (x, (k, u)) → (t ≡ true) × (s ≡ u)
     told n s k u true r x e = (refl, ap (λ (z : Place). z .1) (said-parts tt x (n, s) (k, u) e .1))
     told n s k u false r x e = clash (cc)
 

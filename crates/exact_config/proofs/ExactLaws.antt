@@ -49,7 +49,7 @@ use Rattle.exact.proofs.TimeLaws.{time-valid}
 use Rattle.exact.proofs.CalendarLaws.{pretrigger-exactly}
 use Rattle.exact_config.proofs.LineLaws.{station-line-exactly, channels-line-exactly, analog-line-exactly, status-line-exactly, frequency-line-exactly, rates-line-exactly}
 use Rattle.exact_config.proofs.LineLaws.{date-line-exactly, kind-line-exactly, multiplier-line-exactly, codes-line-exactly, quality-line-exactly}
-use Rattle.exact_config.proofs.ConfigLaws.{LastEnd, done-reads, holds-reads, bind-reads, line-reads, last-reads, times-reads, lasts-reads}
+use Rattle.exact_config.proofs.ConfigLaws.{LastEnd, done-reads, asking-reads, bind-reads, line-reads, last-reads, times-reads, lasts-reads}
 
 last-to : (before : ℕ) (l : List ℕ) → 1 ≤ length l → (others : List ℕ) × (l ≡ others ++ lastOf before l ∷ [])
 last-to before [] h = absurd (omega arith)
@@ -130,7 +130,7 @@ config-reads : (s : List ℕ) (c : Config) → ((p : Place) × (configuration (1
 unfolding configuration
 config-reads s c =
     let reads =
-    bind-reads (holds-reads (λ s. leb (length s) 65536) (λ n. refused 1 0 0)) (λ z0.
+    bind-reads (asking-reads (λ s. leb (length s) 65536) (λ n. refused 1 0 0)) (λ z0.
     bind-reads (line-reads stationLine (λ z. StationLine) (λ z. station-line-exactly)) (λ z1.
     bind-reads (line-reads channelsLine (λ v. ChannelsLine (v .0) (v .1)) (λ v. channels-line-exactly (v .0) (v .1))) (λ v2.
     bind-reads (times-reads analogLine AnalogLine analog-line-exactly (v2 .0) 1) (λ z3.
@@ -144,7 +144,7 @@ config-reads s c =
     bind-reads (line-reads multiplierLine (λ z. MultiplierLine) (λ z. multiplier-line-exactly)) (λ z11.
     bind-reads (line-reads codesLine (λ v. CodesLine (v .0) (v .2) (v .1)) (λ v. codes-line-exactly (v .0) (v .2) (v .1))) (λ v12.
     bind-reads (last-reads qualityLine (λ v. QualityLine (v .0) (v .1)) (λ v. quality-line-exactly (v .0) (v .1)) (λ v. quality-some (v .0) (v .1))) (λ v13.
-    bind-reads (holds-reads (λ s. eqb (length s) 0) (λ n. refused 9 n 0)) (λ z14.
+    bind-reads (asking-reads (λ s. eqb (length s) 0) (λ n. refused 9 n 0)) (λ z14.
     done-reads (shownBy v2 r lasts f t k v12 v13))))))))))))))))
     in (
       λ (p, e).

@@ -30,7 +30,7 @@ use Rattle.model.specs.declared.Answer.the-variants.{Yes, No}
 use Rattle.model.specs.Refusals.{refused}
 use Rattle.config_rules.specs.declared.Config.{Config}
 use Rattle.config.specs.declared.ConfigAnswer.{ConfigAnswer}
-use Rattle.config.specs.Reading.{Place, Reader, saidOf, inLine, scanned, done, holds, line, lastLine, times}
+use Rattle.config.specs.Reading.{Place, Reader, saidOf, inLine, scanned, done, asking, line, lastLine, times}
 use Rattle.config.specs.Reading as paper
 use Rattle.config.specs.Config.{configAnswer, lastRows, configuration, noConfig, readConfig}
 use Rattle.paper.specs.Lines.{Line, ended, StationLine, ChannelsLine, AnalogLine, StatusLine, FrequencyLine, RatesLine, rateSign, RateLine, DateLine, KindLine, MultiplierLine, CodesLine, QualityLine}
@@ -103,20 +103,20 @@ done-walks c x =
       passes = λ n s a k u e. stays n s k u x (said-parts c a (n, s) (k, u) e .1);
     }
 
-holds-told : (t : Bool) (r : Refusal) (p q : Place) (z : Unit {0}) → holds t r p ≡ says (z, q) → p ≡ q
-holds-told true r p q z e = said-parts tt z p q e .1
-holds-told false r p q z e = clash (cc)
+asking-told : (t : Bool) (r : Refusal) (p q : Place) (z : Unit {0}) → asking t r p ≡ says (z, q) → p ≡ q
+asking-told true r p q z e = said-parts tt z p q e .1
+asking-told false r p q z e = clash (cc)
 
-holds-refused : (t : Bool) (r e : Refusal) (p : Place) → holds t r p ≡ refuses e → r ≡ e
-holds-refused true r e p f = clash (cc)
-holds-refused false r e p f = cc
+asking-refused : (t : Bool) (r e : Refusal) (p : Place) → asking t r p ≡ refuses e → r ≡ e
+asking-refused true r e p f = clash (cc)
+asking-refused false r e p f = cc
 
 -- a test whose refusal is of no line
-pub holds-walks : (test : List ℕ → Bool) (refusal : ℕ → Refusal) (x : Due) → ((n : ℕ) → OfLine (refusal n) → ⊥) → Walks (λ p. holds (test (p .1)) (refusal (p .0)) p) x (λ u. x)
-holds-walks test refusal x other =
+pub asking-walks : (test : List ℕ → Bool) (refusal : ℕ → Refusal) (x : Due) → ((n : ℕ) → OfLine (refusal n) → ⊥) → Walks (λ p. asking (test (p .1)) (refusal (p .0)) p) x (λ u. x)
+asking-walks test refusal x other =
     record {
-      stops = record { fails = λ n s e f o. let q = holds-refused (test s) (refusal n) e (n, s) f in absurd (other n (rw q o)) };
-      passes = λ n s a k u e. stays n s k u x (holds-told (test s) (refusal n) (n, s) (k, u) a e);
+      stops = record { fails = λ n s e f o. let q = asking-refused (test s) (refusal n) e (n, s) f in absurd (other n (rw q o)) };
+      passes = λ n s a k u e. stays n s k u x (asking-told (test s) (refusal n) (n, s) (k, u) a e);
     }
 
 -- a line's refusal is told with its number
@@ -219,18 +219,18 @@ lasts-walks n (suc m) before =
     (λ last. bind-walks (lasts-walks n m last) (λ others. done-walks (last ∷ others) first))
 
 -- 9, or nothing
-nothing-more : {A : Type 0} (c : A) (p : Place) (e : Refusal) → paper._>>_ (λ q. holds (eqb (length (q .1)) 0) (refused 9 (q .0) 0) q) (done c) p ≡ refuses e → OfLine e → ⊥
-nothing-more c p e f o = nine (bind-cases (holds (eqb (length (p .1)) 0) (refused 9 (p .0) 0) p) (λ q. done c (q .1)) e f)
+nothing-more : {A : Type 0} (c : A) (p : Place) (e : Refusal) → paper._>>_ (λ q. asking (eqb (length (q .1)) 0) (refused 9 (q .0) 0) q) (done c) p ≡ refuses e → OfLine e → ⊥
+nothing-more c p e f o = nine (bind-cases (asking (eqb (length (p .1)) 0) (refused 9 (p .0) 0) p) (λ q. done c (q .1)) e f)
   where
-    nine : (holds (eqb (length (p .1)) 0) (refused 9 (p .0) 0) p ≡ refuses e)
-        ⊎ ((q : Unit {0} × Place) × (holds (eqb (length (p .1)) 0) (refused 9 (p .0) 0) p ≡ says q) × (done c (q .1) ≡ refuses e)) → ⊥
-    nine (inl h) = let w = ap (λ (r : Refusal). r .number) (holds-refused (eqb (length (p .1)) 0) (refused 9 (p .0) 0) e p h) in absurd (omega arith)
+    nine : (asking (eqb (length (p .1)) 0) (refused 9 (p .0) 0) p ≡ refuses e)
+        ⊎ ((q : Unit {0} × Place) × (asking (eqb (length (p .1)) 0) (refused 9 (p .0) 0) p ≡ says q) × (done c (q .1) ≡ refuses e)) → ⊥
+    nine (inl h) = let w = ap (λ (r : Refusal). r .number) (asking-refused (eqb (length (p .1)) 0) (refused 9 (p .0) 0) e p h) in absurd (omega arith)
     nine (inr (q, h, g)) = clash (cc)
 
 config-stops : Stops configuration station
 unfolding configuration
 config-stops =
-    bind-stops (holds-walks (λ s. leb (length s) 65536) (λ n. refused 1 0 0) station (λ n o. absurd (omega arith))) (λ z0.
+    bind-stops (asking-walks (λ s. leb (length s) 65536) (λ n. refused 1 0 0) station (λ n o. absurd (omega arith))) (λ z0.
     bind-stops (line-walks stationLine (λ z. StationLine) (λ z. station-line-exactly) station (λ l z r. (tt, r .0)) (λ z. channels) (λ z l g. (g, refl)) (λ q. clash (cc))) (λ z1.
     bind-stops (line-walks channelsLine (λ v. ChannelsLine (v .0) (v .1)) (λ v. channels-line-exactly (v .0) (v .1)) channels (λ l z r. ((r .0, r .1), r .2))
     (λ v. analogDue 1 (v .0) (v .1)) (λ v l g. (v .0, v .1, g, refl)) (λ q. clash (cc))) (λ v2.

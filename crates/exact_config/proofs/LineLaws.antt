@@ -54,7 +54,7 @@ use Rattle.paper.specs.Fields as paper
 use Rattle.paper.specs.Lines.{Fields, ChannelNames, StationLine, ChannelsLine, AnalogLine, StatusLine, FrequencyLine, RatesLine}
 use Rattle.paper.specs.Lines.{rateSign, RateLine, DateLine, KindLine, MultiplierLine, LocalField, CodesLine, QualityLine}
 use Rattle.exact.proofs.CommaLaws.{fields-exactly, fields-of}
-use Rattle.exact.proofs.FieldLaws.{in-exactly, lettered-exactly}
+use Rattle.exact.proofs.FieldLaws.{count-in-exactly, lettered-exactly}
 use Rattle.exact.proofs.CharacterLaws.{quality-exactly, leap-exactly}
 use Rattle.exact.proofs.KindLaws.{kind-exactly}
 use Rattle.exact.proofs.LimitLaws.{limits-exactly}
@@ -132,7 +132,7 @@ unfolding channelsLine
 channels-line-exactly a d l =
     let w =
     then-says (count-says 3 l)
-    (bind-says (value-says 1 (readCountIn 6 1 352) l (in-exactly 6 1 352 (fieldAt 1 l))) (λ t.
+    (bind-says (value-says 1 (readCountIn 6 1 352) l (count-in-exactly 6 1 352 (fieldAt 1 l))) (λ t.
     bind-says (value-says 2 (readLettered 65 96) l (lettered-exactly "A" 65 refl 96 (fieldAt 2 l))) (λ x.
     bind-says (value-says 3 (readLettered 68 256) l (lettered-exactly "D" 68 refl 256 (fieldAt 3 l))) (λ y.
     then-says (must-says (eqb t (x + y)) (fault 7 3) (eqb-true t (x + y), eq-eqb t (x + y))) (says-says {A = ℕ × ℕ} (x, y))))))
@@ -259,7 +259,7 @@ frequency-line-exactly l =
 pub rates-line-exactly : (n : ℕ) (l : List ℕ) → ratesLine l ≡ says n ↔ RatesLine n l
 unfolding ratesLine
 rates-line-exactly n l =
-    let w = one-field (CountIn 3 0 8) l (value-says 1 (readCountIn 3 0 8) l (in-exactly 3 0 8 (fieldAt 1 l))) n in
+    let w = one-field (CountIn 3 0 8) l (value-says 1 (readCountIn 3 0 8) l (count-in-exactly 3 0 8 (fieldAt 1 l))) n in
     (λ e. let (f, s, p) = w .0 e in record { f = f; fields = s; rates = p }, λ s. w .1 (s .f, s .fields, s .rates))
 
 pub rate-line-exactly : (n before last : ℕ) (l : List ℕ) → rateLine (eqb n 0) before l ≡ says last ↔ RateLine (rateSign n) before last l
@@ -268,7 +268,7 @@ rate-line-exactly n before last l =
     let w =
     then-says (count-says 2 l)
     (then-says (fine-says 1 (rateFault (eqb n 0)) l (rate-fine n (fieldAt 1 l)))
-    (bind-says (value-says 2 (readCountIn 10 1 1000000) l (in-exactly 10 1 1000000 (fieldAt 2 l))) (λ v.
+    (bind-says (value-says 2 (readCountIn 10 1 1000000) l (count-in-exactly 10 1 1000000 (fieldAt 2 l))) (λ v.
     then-says (must-says (ltb before v) (fault 7 2) (ltb-true before v, lt-ltb before v)) (says-says v))))
     in (
       λ e.

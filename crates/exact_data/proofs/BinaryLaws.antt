@@ -11,7 +11,7 @@ use native.Mathlib.Omega.{arith}
 use borrow.Author.Tests.{eq-eqb, lt-ltb, le-ltb}
 use lib.Dec.{ltb}
 use lib.IntN.{ℤ, pos}
-use lib.ListN.{length}
+use lib.ListN.{length, getD}
 use Rattle.ground.specs.Said.{says}
 use Rattle.ground.specs.Tables.{part, every}
 use Rattle.ground.proofs.Cases.{lt-or-ge}
@@ -25,8 +25,9 @@ use Rattle.model.specs.declared.Layout.{Layout}
 use Rattle.model.specs.declared.Row.{Row}
 use Rattle.model.specs.Kinds.{widthOf, halfOf}
 use Rattle.model.specs.Layouts.{Sized}
+use Rattle.model.specs.Samples.{sampleOf}
 use Rattle.model.specs.Rows.{trimmed}
-use Rattle.model.proofs.KindLaws.{width-pos}
+use Rattle.model.proofs.KindLaws.{width-pos, half-le}
 use Rattle.binary_row.specs.Rows.{wordsOf, samplesEnd, rowSize, rowNumber, samplesPart, wordsPart, bytesSample, wordAt, wordStatus, paddingFree, checkRow, rowOf}
 use Rattle.binary_bytes.specs.Rows.{binaryOf}
 use Rattle.binary_row.proofs.SizeLaws.{sizes}
@@ -36,8 +37,8 @@ use Rattle.binary_file.specs.Files.{rowBytes, checkBinary, binaryRow}
 use Rattle.binary_file.specs.Inner.{binaryFile}
 use Rattle.binary_file.proofs.Laws.{row-length, whole}
 use Rattle.binary_file.proofs.FileLaws.{binary-accepted, row-there}
-use Rattle.paper.specs.Data.{sampleOf, statusOf, lowFirst, TwosComplement, isOn, statusWord, BinaryRow, BinaryFile}
-use Rattle.exact_data.proofs.NumberLaws.{low-first, twos-exactly, padding-exactly}
+use Rattle.paper.specs.Data.{rowSample, statusOf, lowFirst, SampleWord, isOn, statusWord, BinaryRow, BinaryFile}
+use Rattle.exact_data.proofs.NumberLaws.{low-first, word-exactly, padding-exactly}
 
 -- the bytes of a row
 module _ (l : Layout) (b : List ℕ) (bytes : every isByte b ≡ true) (size : length b ≡ rowSize l) where
@@ -53,10 +54,10 @@ module _ (l : Layout) (b : List ℕ) (bytes : every isByte b ≡ true) (size : l
       let e : 8 + (i * w + w) ≡ 8 + i * w + w = omega arith in
       rw e at (part-part 8 (samplesEnd l) (i * w) (i * w + w) b (omega arith) (omega (arith, block-end i (l .analogs) w h)) (omega (arith, sizes l)))
 
-  sample-is : (i : ℕ) (z : ℤ) → i < l .analogs → TwosComplement w (lowFirst (sampleBytes i)) z ↔ bytesSample w (halfOf (l .kind)) (samplesPart l b) i ≡ z
+  sample-is : (i : ℕ) (z : ℤ) → i < l .analogs → SampleWord w (lowFirst (sampleBytes i)) (sampleOf z) ↔ bytesSample w (halfOf (l .kind)) (samplesPart l b) i ≡ z
   sample-is i z h =
       rw (low-first (sampleBytes i), sample-part i h)
-      (twos-exactly w (wordOf (sampleBytes i)) z (width-pos (l .kind)) (wordOf-part-lt b (8 + i * w) (8 + i * w + w) w bytes (omega arith)))
+      (word-exactly w (wordOf (sampleBytes i)) z (width-pos (l .kind)) (half-le (l .kind)) (wordOf-part-lt b (8 + i * w) (8 + i * w + w) w bytes (omega arith)))
 
   word-is : (j : ℕ) → j < wordsOf (l .statuses) → statusWord l j b ≡ wordAt (wordsPart l b) j
   word-is j h =
@@ -111,7 +112,8 @@ module _ (l : Layout) (n : ℕ) (r : Row) (b : List ℕ) (bytes : every isByte b
         row =
             rw (
               sym (low-first (part 4 8 b)) ∙ t .time,
-              tab-ext (bytesSample (widthOf k) (halfOf k) (samplesPart l b)) (sampleOf r) (l .analogs) (λ i h. sample-is l b bytes size i (sampleOf r i) h .0 (t .samples i h)),
+              tab-ext (bytesSample (widthOf k) (halfOf k) (samplesPart l b)) (λ i. getD (r .samples) i (pos 0)) (l .analogs)
+                  (λ i h. sample-is l b bytes size i (getD (r .samples) i (pos 0)) h .0 (t .samples i h)),
               tab-ext (wordStatus (wordsPart l b)) (statusOf r) (l .statuses) (status-to l b bytes size r (t .statuses)),
             )
             (t .beyond);

@@ -3,9 +3,11 @@
 --     one-first, none-first    there is one first sample outside, and none where all are in range
 --     file-ext                 the same rows are written as the same file
 --     said, said-file          what the change says of a data file, by its rows alone
+--     own-range                each sample of a data file is in the range of its own kind, or missing
 --     new-file, new-bytes, new-said     where every sample is in range, the new file is the data file of the same rows, it is bytes, and is said where there is room
 --     back-said, restored      and what is then said of changing back: the first file itself, or the plain text with its rows
 --     told                     in all: the new file, 17 where there is no room for it, or 16 at the first sample outside
+--     said-bytes               what is said is bytes
 -- Assumes nothing.
 use mathlib.Core.Path.{_≡_, refl, sym, ap, subst, _∙_}
 use mathlib.Core.Logic.{_⊎_, inl, inr, ⊎-elim}
@@ -16,7 +18,9 @@ use native.Mathlib.Nat.{add-zero, zero-add}
 use native.Mathlib.Omega.{arith}
 use borrow.Author.Tests.{eqb-true, eqb-false, le-leb, lt-leb}
 use lib.Dec.{eqb, leb}
-use lib.ListN.{length}
+use lib.IntN.{ℤ, pos}
+use lib.ListN.{length, getD}
+use lib.Signed.{clashℤ, _<ℤ_}
 use Rattle.ground.specs.Said.{says, refuses, _>>_, must}
 use Rattle.ground.specs.Tables.{every}
 use Rattle.ground.proofs.Cases.{on-test, lt-or-ge, clash}
@@ -26,6 +30,8 @@ use Rattle.model.specs.declared.Kind.{Kind}
 use Rattle.model.specs.declared.Kind.the-variants.{Ascii, Binary, Binary32}
 use Rattle.model.specs.declared.Layout.{Layout}
 use Rattle.model.specs.declared.Row.{Row}
+use Rattle.model.specs.declared.Sample.the-variants.{Is}
+use Rattle.model.specs.Kinds.{lowestOf, highestOf}
 use Rattle.model.specs.Layouts.{isSized, Sized, inKind}
 use Rattle.model.specs.Refusals.{refused}
 use Rattle.model.specs.Rows.{trimmed}
@@ -39,29 +45,31 @@ use Rattle.data.proofs.FileLaws as files
 use Rattle.data.proofs.FileLaws.{Writes}
 use Rattle.change.specs.Change.{changeSaid}
 use Rattle.change_length.specs.Needed.{fitRows, changed}
-use Rattle.paper.specs.Data.{InRange, sampleOf, TextFile, DataFile}
-use Rattle.paper.specs.Written.{EndingOf, PlainText, Restored, AllInRange, FirstOutside}
-use Rattle.exact_data.proofs.NumberLaws.{range-exactly}
+use Rattle.paper.specs.Data.{InRange, rowSample, TextFile, DataFile}
+use Rattle.paper.specs.Written.{FitsIn, EndingOf, PlainText, Restored, AllInRange, FirstOutside}
+use Rattle.exact_data.proofs.NumberLaws.{fits-exactly, misfit-outside}
 use Rattle.exact_data.proofs.FileLaws.{as-text, RowsAre, fine-exactly, same-file}
-use Rattle.exact_data.proofs.StandLaws.{fits-exactly, rows-stand, bytes-stand}
+use Rattle.exact_data.proofs.StandLaws.{row-fits-exactly, rows-stand, bytes-stand}
 use Rattle.exact_data.proofs.PlainLaws.{plain-there}
 
 -- the search through a row
 module _ (l : Layout) (r : Row) where
+  abbrev place : ℕ → ℤ
+  place j = getD (r .samples) j (pos 0)
+
   misfit-within : (misfitOf l r ≡ l .analogs → ⊥) → misfitOf l r < l .analogs
   unfolding misfitOf
-  misfit-within h = ⊎-elim (λ k. k) (λ k. absurd (h (omega (arith, misfit-le (l .kind) (r .samples) (l .analogs))))) (lt-or-ge (misfitOf l r) (l .analogs))
+  misfit-within h = ⊎-elim (λ k. k) (λ k. absurd (h (omega (arith, misfit-le l (r .samples))))) (lt-or-ge (misfitOf l r) (l .analogs))
 
-  misfit-outside : misfitOf l r < l .analogs → InRange (l .kind) (sampleOf r (misfitOf l r)) → ⊥
+  misfit-there : misfitOf l r < l .analogs
+      → (rowSample r (misfitOf l r) ≡ Is (place (misfitOf l r)))
+      × ((place (misfitOf l r) <ℤ lowestOf (l .kind)) ⊎ (highestOf (l .kind) <ℤ place (misfitOf l r)))
   unfolding misfitOf
-  misfit-outside h i =
-      let f = misfit-first (l .kind) (r .samples) (l .analogs) h .1 in
-      let t = range-exactly (l .kind) (sampleOf r (misfitOf l r)) .1 i in
-      clash (cc)
+  misfit-there h = misfit-outside l (place (misfitOf l r)) (misfit-first l (r .samples) h .1)
 
-  misfit-before : misfitOf l r < l .analogs → (q : ℕ) → q < misfitOf l r → InRange (l .kind) (sampleOf r q)
+  misfit-before : misfitOf l r < l .analogs → (q : ℕ) → q < misfitOf l r → FitsIn l (rowSample r q)
   unfolding misfitOf
-  misfit-before h q k = range-exactly (l .kind) (sampleOf r q) .0 (misfit-first (l .kind) (r .samples) (l .analogs) h .0 q k)
+  misfit-before h q k = fits-exactly l (place q) .0 (misfit-first l (r .samples) h .0 q k)
 
 -- m rows from row i on: all fit, or the first that does not is row i + j
 abbrev AllFitFrom : Layout → (ℕ → Row) → ℕ → ℕ → Type 0
@@ -124,7 +132,7 @@ module _ (l : Layout) (k : Kind) (r : ℕ → Row) where
   pub outcome : (AllInRange l k r × (fitRows new r 0 (l .rows) ≡ says tt)) ⊎ Outside
   outcome =
       ⊎-elim
-      (λ (f : AllFitFrom new r 0 (l .rows)). inl (λ i j h q. fits-exactly new (r i) .0 (rw zero-add at (f .1 i h)) j q, f .0))
+      (λ (f : AllFitFrom new r 0 (l .rows)). inl (λ i j h q. row-fits-exactly new (r i) .0 (rw zero-add at (f .1 i h)) j q, f .0))
       (λ (f : Misfit new r 0 (l .rows)).
       let here : misfitOf new (r (f .at)) < l .analogs = rw zero-add at (f .here) in
       inr (record {
@@ -133,23 +141,31 @@ module _ (l : Layout) (k : Kind) (r : ℕ → Row) where
         first = record {
           row = f .within;
           sample = here;
-          outside = misfit-outside new (r (f .at)) here;
-          rowsBefore = λ p q h w. fits-exactly new (r p) .0 (rw zero-add at (f .before p h)) q w;
+          number = place new (r (f .at)) (misfitOf new (r (f .at)));
+          there = misfit-there new (r (f .at)) here .0;
+          outside = misfit-there new (r (f .at)) here .1;
+          rowsBefore = λ p q h w. row-fits-exactly new (r p) .0 (rw zero-add at (f .before p h)) q w;
           samplesBefore = misfit-before new (r (f .at)) here;
         };
         refusal = rw zero-add at (f .refusal);
       }))
       (fits-or new r 0 (l .rows))
 
+  -- a sample that is outside does not fit
+  not-fits : (i j : ℕ) → FirstOutside l k r i j → FitsIn new (rowSample (r i) j) → ⊥
+  not-fits i j f h =
+      let q : InRange new (f .number) = rw (f .there) at h in
+      ⊎-elim (λ (x : f .number <ℤ lowestOf k). clashℤ x (q .low)) (λ (x : highestOf k <ℤ f .number). clashℤ x (q .high)) (f .outside)
+
   pub none-first : (i j : ℕ) → AllInRange l k r → FirstOutside l k r i j → ⊥
-  none-first i j all f = f .outside (all i j (f .row) (f .sample))
+  none-first i j all f = not-fits i j f (all i j (f .row) (f .sample))
 
   -- no sample outside comes before the first
   not-before : (i j p q : ℕ) → FirstOutside l k r i j → FirstOutside l k r p q → p < i → ⊥
-  not-before i j p q f g h = g .outside (f .rowsBefore p q h (g .sample))
+  not-before i j p q f g h = not-fits p q g (f .rowsBefore p q h (g .sample))
 
   not-left : (i j q : ℕ) → FirstOutside l k r i j → FirstOutside l k r i q → q < j → ⊥
-  not-left i j q f g h = g .outside (f .samplesBefore q h)
+  not-left i j q f g h = not-fits i q g (f .samplesBefore q h)
 
   same : (a b : ℕ) → (a < b → ⊥) → (b < a → ⊥) → a ≡ b
   same a b h g = ⊎-elim (λ (w : a < b). absurd (h w)) (λ (w : b ≤ a). ⊎-elim (λ (v : b < a). absurd (g v)) (λ (v : a ≤ b). omega arith) (lt-or-ge b a)) (lt-or-ge a b)
@@ -199,8 +215,8 @@ module _ (l : Layout) (r : ℕ → Row) (s : List ℕ) (size : Sized l) (bytes :
   row-trimmed : (i : ℕ) → i < l .rows → trimmed l (r i) ≡ r i
   row-trimmed i h = ap (trimmed l) (sym (fine .1 i h)) ∙ files.row-trimmed l s bytes i ∙ fine .1 i h
 
-  own-range : AllInRange l (l .kind) r
-  own-range i j h q = fits-exactly l (r i) .0 (row-writes i h .all) j q
+  pub own-range : AllInRange l (l .kind) r
+  own-range i j h q = row-fits-exactly l (r i) .0 (row-writes i h .all) j q
 
   pub said-file : (k : Kind) (room : ℕ)
       → changeSaid l s k room
@@ -213,7 +229,7 @@ module _ (l : Layout) (r : ℕ → Row) (s : List ℕ) (size : Sized l) (bytes :
     all-fit = ⊎-elim (λ f. f .1) (λ (f : Outside l k r). absurd (none-first l k r (f .i) (f .j) all (f .first))) (outcome l k r)
 
     new-writes : (i : ℕ) → i < l .rows → Writes (inKind k l) (r i)
-    new-writes i h = record { time = row-writes i h .time; all = fits-exactly (inKind k l) (r i) .1 (λ j q. all i j h q) }
+    new-writes i h = record { time = row-writes i h .time; all = row-fits-exactly (inKind k l) (r i) .1 (λ j q. all i j h q) }
 
     new-trimmed : (i : ℕ) → i < l .rows → trimmed (inKind k l) (r i) ≡ r i
     unfolding trimmed
@@ -273,3 +289,10 @@ module _ (l : Layout) (r : ℕ → Row) (s : List ℕ) (size : Sized l) (bytes :
       (lt-or-ge room m))
       (λ (f : Outside l k r). inr (inr (f .i, f .j, f .first, said-file k room ∙ rw (f .refusal))))
       (outcome l k r)
+
+  pub said-bytes : (k : Kind) (room : ℕ) (u : List ℕ) → changeSaid l s k room ≡ says u → every isByte u ≡ true
+  said-bytes k room u e =
+      ⊎-elim
+      (λ a. let p = a .2 in let q : fileOf (inKind k l) r ≡ u = cc in rw (← q) (new-bytes k (a .0)))
+      (⊎-elim (λ a. let q = a .2 in clash (cc)) (λ a. let q = a .3 in clash (cc)))
+      (told k room)

@@ -1,13 +1,14 @@
 -- The numbers of the page against those of the readers.
 --     low-first                      the number that bytes hold
---     twos-exactly                   two's complement
---     range-exactly                  a sample in the range of a kind fits it
+--     twos-exactly, word-exactly     two's complement, and so a sample's number, of which the lowest pattern is kept for a missing one
+--     range-exactly, fits-exactly    a number in the range of a layout is a sample of it, and what fits can be written
+--     misfit-outside                 what can not be written is there, and below the lowest or above the highest sample
 --     no-bits                        a number of which no bit is on is zero
 --     padding-exactly                status words have no padding bit exactly when each of their bits past d is off
 -- Assumes nothing.
 use mathlib.Core.Path.{_≡_, refl, sym, ap, _∙_}
-use mathlib.Core.Logic.{_↔_, inl, inr, ⊎-elim}
-use mathlib.Core.Bool.{true, false, not}
+use mathlib.Core.Logic.{_↔_, _⊎_, inl, inr, ⊎-elim}
+use mathlib.Core.Bool.{true, false, not, _&&_}
 use mathlib.Core.List.{List, [], _∷_}
 use Prim.Native.Nat.{ℕ, zero, suc, _+_, _-_, _*_, _/_, _%_, _^_, _<_, _≤_}
 use native.Mathlib.Nat.{div-eq-of-lt, lt-of-lt-of-le}
@@ -16,7 +17,7 @@ use borrow.Author.Tests.{eq-eqb, ne-eqb, eqb-true, eqb-false, le-ltb, ltb-false}
 use lib.Dec.{eqb, ltb}
 use lib.IntN.{ℤ, pos, negsuc, subℕ, _+ℤ_}
 use lib.Pow.{pow-mono, shr-shr, shr-lt}
-use lib.Signed.{ltZ, ltZ-no, ltZ-yes, clashℤ, _≤ℤ_}
+use lib.Signed.{ltZ, ltZ-no, ltZ-yes, clashℤ, _≤ℤ_, _<ℤ_}
 use Rattle.ground.specs.Tables.{tab, every}
 use Rattle.ground.proofs.Cases.{on-test, lt-or-ge, clash}
 use Rattle.ground.proofs.Every.{and-split, and-join}
@@ -26,12 +27,16 @@ use Rattle.words.specs.Words.{wordOf, isByte}
 use Rattle.words.specs.Signed.{half, signedOf}
 use Rattle.words.proofs.WordLaws.{wordOf-part-lt}
 use Rattle.words.proofs.SignedLaws.{signed-low, signed-high, half-twice}
-use Rattle.model.specs.declared.Kind.{Kind}
-use Rattle.model.specs.Kinds.{lowestOf, highestOf, fitsKind}
+use Rattle.model.specs.declared.Layout.{Layout}
+use Rattle.model.specs.declared.Sample.the-variants.{Is}
+use Rattle.model.specs.Kinds.{lowestOf, highestOf}
+use Rattle.model.specs.Samples.{missing, isMissing, sampleOf, holds, fits, sampleOfWord}
+use Rattle.model.proofs.SampleLaws.{missing-is, is-missing, signed-size, fits-there, there-fits}
 use Rattle.binary_row.specs.Rows.{wordsOf, wordAt, bitOf, wordStatus, paddingFree}
 use Rattle.binary_bytes.specs.Rows.{packed}
 use Rattle.binary_bytes.proofs.PackLaws.{packed-bits, lt-of-div}
-use Rattle.paper.specs.Data.{InRange, lowFirst, TwosComplement}
+use Rattle.paper.specs.Data.{InRange, lowFirst, TwosComplement, SampleWord}
+use Rattle.paper.specs.Written.{FitsIn}
 
 pub low-first : (l : List ℕ) → lowFirst l ≡ wordOf l
 unfolding wordOf
@@ -66,18 +71,69 @@ twos-exactly w v z some within = (
       (lt-or-ge v (half w)),
 )
 
+-- a sample's number, of w bytes: h is half of them
+module _ (w v : ℕ) (z : ℤ) (some : 1 ≤ w) (small : half w ≤ 2 ^ 31) (within : v < 256 ^ w) where
+  word-to : SampleWord w v (sampleOf z) → sampleOfWord (half w) v ≡ z
+  unfolding sampleOf sampleOfWord
+  word-to =
+      on-test (isMissing z)
+      (λ t. rw t (λ e. rw (eq-eqb v (half w) e, is-missing z t)))
+      (λ t. rw t (λ e. rw (ne-eqb v (half w) (e .0)) (twos-exactly w v z some within .0 (e .1))))
+
+  word-from : sampleOfWord (half w) v ≡ z → SampleWord w v (sampleOf z)
+  unfolding sampleOf sampleOfWord
+  word-from e =
+      on-test (eqb v (half w))
+      (λ t. let q : missing ≡ z = rw t at e in rw (← q, missing-is) (eqb-true v (half w) t))
+      (λ t.
+      let q : signedOf (half w) v ≡ z = rw t at e in
+      let n = eqb-false v (half w) t in
+      let there = rw q at (signed-size (half w) small v (rw (half-twice w some) within) n .0) in
+      rw there (n, twos-exactly w v z some within .1 q))
+
+  pub word-exactly : SampleWord w v (sampleOf z) ↔ sampleOfWord (half w) v ≡ z
+  word-exactly = (word-to, word-from)
+
 not-below : (a b : ℤ) → not (ltZ a b) ≡ true ↔ b ≤ℤ a
 not-below a b =
     (λ e. ltZ-no {a = a} {b = b} (rw e tt), λ h. on-test (ltZ a b) (λ t. clashℤ (ltZ-yes {a = a} {b = b} (rw t tt)) h) (λ t. rw t))
 
-pub range-exactly : (k : Kind) (z : ℤ) → fitsKind k z ≡ true ↔ InRange k z
-unfolding fitsKind
-range-exactly k z = (
-  λ e.
-      let s = and-split (not (ltZ z (lowestOf k))) (not (ltZ (highestOf k) z)) e in
-      record { low = not-below z (lowestOf k) .0 (s .0); high = not-below (highestOf k) z .0 (s .1) },
-  λ r. and-join (not (ltZ z (lowestOf k))) (not (ltZ (highestOf k) z)) (not-below z (lowestOf k) .1 (r .low)) (not-below (highestOf k) z .1 (r .high)),
-)
+module _ (l : Layout) (z : ℤ) where
+  abbrev low : ℤ
+  low = lowestOf (l .kind)
+
+  abbrev high : ℤ
+  high = highestOf (l .kind)
+
+  pub range-exactly : holds l z ≡ true ↔ InRange l z
+  unfolding holds
+  range-exactly = (
+    λ e.
+        let s = and-split (not (ltZ z low)) (not (ltZ high z)) e in
+        record { low = not-below z low .0 (s .0); high = not-below high z .0 (s .1) },
+    λ r. and-join (not (ltZ z low)) (not (ltZ high z)) (not-below z low .1 (r .low)) (not-below high z .1 (r .high)),
+  )
+
+  pub fits-exactly : fits l z ≡ true ↔ FitsIn l (sampleOf z)
+  unfolding sampleOf
+  fits-exactly = (
+    λ e. on-test (isMissing z) (λ t. rw t tt) (λ t. rw t (range-exactly .0 (fits-there l z e t))),
+    λ f. there-fits l z (λ t. range-exactly .1 (rw t at f)),
+  )
+
+  beyond : holds l z ≡ false → (z <ℤ low) ⊎ (high <ℤ z)
+  unfolding holds
+  beyond e =
+      on-test (ltZ z low)
+      (λ t. inl (ltZ-yes {a = z} {b = low} (rw t tt)))
+      (λ t. on-test (ltZ high z) (λ u. inr (ltZ-yes {a = high} {b = z} (rw u tt))) (λ u. let q : true ≡ false = rw (t, u) at e in clash (cc)))
+
+  pub misfit-outside : fits l z ≡ false → (sampleOf z ≡ Is z) × ((z <ℤ low) ⊎ (high <ℤ z))
+  unfolding fits sampleOf
+  misfit-outside e =
+      on-test (isMissing z)
+      (λ t. let q : true ≡ false = rw t at e in clash (cc))
+      (λ t. (rw t, beyond (rw t at e)))
 
 packed-none : (k : ℕ) → packed (tab (λ i. false) k) ≡ 0
 unfolding packed

@@ -1,5 +1,5 @@
 -- Plain texts, exactly.
---     plain-count-exactly, plain-whole-exactly     plain counts and plain whole numbers, by their characters
+--     plain-count-exactly, plain-whole-exactly, plain-sample-exactly     plain counts, plain whole numbers and plain samples, by their characters
 --     line-plain                   a line that is written is plain
 --     plain-written                a plain text with given rows is what is written of them
 --     plain-there                  and what is written is one
@@ -12,6 +12,7 @@ use Prim.Native.Nat.{ℕ, zero, suc, _+_, _≤_}
 use native.Mathlib.Omega.{arith}
 use borrow.Author.Tests.{eq-eqb, ne-eqb, eqb-true, eqb-false, leb-true}
 use lib.Dec.{eqb, leb}
+use lib.IntN.{ℤ, pos}
 use lib.ListN.{length, getD}
 use Rattle.ground.specs.Quoted.{quoted}
 use Rattle.ground.specs.Tables.{every}
@@ -25,16 +26,18 @@ use Rattle.numerals.proofs.PlainLaws.{decimal-plain}
 use Rattle.numerals.proofs.WholeLaws as numbers
 use Rattle.model.specs.declared.Layout.{Layout}
 use Rattle.model.specs.declared.Row.{Row}
+use Rattle.model.specs.Samples.{isMissing}
 use Rattle.ascii_row.specs.Rows.{fieldsOf}
 use Rattle.ascii_row.proofs.LineLaws.{line-told}
-use Rattle.ascii_plain.specs.Rows.{lineOf, textOf}
+use Rattle.ascii_plain.specs.Rows.{sampleChars, lineOf, textOf}
+use Rattle.ascii_plain.specs.Inner.{isPlainSample}
 use Rattle.ascii_plain.proofs.LineLaws.{line-bytes-plain, fields-line, number-field, time-field, sample-field}
 use Rattle.ascii_file.specs.Files.{mark, textFile}
 use Rattle.ascii_file.proofs.PlainLaws.{line-again}
 use Rattle.paper.specs.Fields.{isBetween}
 use Rattle.paper.specs.Lines.{ended}
-use Rattle.paper.specs.Data.{sampleOf, TextLine, TextFile}
-use Rattle.paper.specs.Written.{PlainCount, PlainWhole, PlainLine, PlainText}
+use Rattle.paper.specs.Data.{TextLine, TextFile}
+use Rattle.paper.specs.Written.{PlainCount, PlainWhole, PlainSample, PlainLine, PlainText}
 use Rattle.exact.proofs.CountLaws.{digits-to, digits-from}
 use Rattle.exact.proofs.CommaLaws.{fields-exactly, fields-of}
 use Rattle.exact_data.proofs.TextLaws.{line-exactly}
@@ -96,6 +99,28 @@ whole-from f (inr (d, e, p, h)) = rw e (and-join (isPlainCount d) (not (eqb (get
 pub plain-whole-exactly : (f : List ℕ) → isPlain f ≡ true ↔ PlainWhole f
 plain-whole-exactly f = (whole-to f, whole-from f)
 
+module _ (l : Layout) (f : List ℕ) where
+  sample-to : isPlainSample l f ≡ true → PlainSample f
+  unfolding isPlainSample
+  sample-to e = on-test (eqb (length f) 0) (λ t. inr (empty f (eqb-true (length f) 0 t))) (λ t. inl (whole-to f (rw t at e)))
+    where
+      empty : (f : List ℕ) → length f ≡ 0 → f ≡ []
+      empty [] h = refl
+      empty (b ∷ f) h = absurd (omega arith)
+
+  sample-from : PlainSample f → isPlainSample l f ≡ true
+  unfolding isPlainSample
+  sample-from (inl p) = on-test (eqb (length f) 0) (λ t. rw t) (λ t. rw (t, whole-from f p))
+  sample-from (inr e) = rw e
+
+  pub plain-sample-exactly : isPlainSample l f ≡ true ↔ PlainSample f
+  plain-sample-exactly = (sample-to, sample-from)
+
+-- what is written of a sample is plain
+chars-plain : (l : Layout) (z : ℤ) → PlainSample (sampleChars l z)
+unfolding sampleChars
+chars-plain l z = on-test (isMissing z) (λ t. rw t (inr refl)) (λ t. rw t (inl (whole-to _ (numbers.plain-is z))))
+
 -- a line that is fine, and plain, is what is written of its row
 line-is : (l : Layout) (n : ℕ) (r : Row) (line : List ℕ) → TextLine l n r line → PlainLine l line → lineOf l n r ≡ line
 line-is l n r line t p =
@@ -105,7 +130,7 @@ line-is l n r line t p =
     ∙ line-again l n line (line-told l n line (x .0))
     (rw (f 1 (omega arith) (omega arith)) (count-from (p .f 1) (p .number)))
     (rw (f 2 (omega arith) (omega arith)) (count-from (p .f 2) (p .time)))
-    (λ i h. rw (f (3 + i) (omega arith) (omega arith)) (whole-from (p .f (3 + i)) (p .samples i h)))
+    (λ i h. rw (f (3 + i) (omega arith) (omega arith)) (sample-from l (p .f (3 + i)) (p .samples i h)))
 
 pub line-plain : (l : Layout) (n : ℕ) (r : Row) → PlainLine l (lineOf l n r)
 line-plain l n r =
@@ -114,7 +139,7 @@ line-plain l n r =
       fields = fields-of (fieldsOf l) (lineOf l n r) (omega arith) (fields-line l n r);
       number = rw (number-field l n r) (count-to _ (decimal-plain n));
       time = rw (time-field l n r) (count-to _ (decimal-plain (r .time)));
-      samples = λ i h. rw (sample-field l n r i h) (whole-to _ (numbers.plain-is (sampleOf r i)));
+      samples = λ i h. rw (sample-field l n r i h) (chars-plain l (getD (r .samples) i (pos 0)));
     }
 
 pub plain-there : (l : Layout) (r : ℕ → Row) → PlainText l (textFile l r)

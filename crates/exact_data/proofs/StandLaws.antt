@@ -1,5 +1,5 @@
 -- Rows that were written, standing in a data file.
---     fits-exactly               no sample of a row is a misfit exactly when each is in range
+--     row-fits-exactly           no sample of a row is a misfit exactly when each fits
 --     fitting-exactly            so a row fits exactly when it can be written
 --     lines-apart                a text that begins with a line begins with no other
 --     same-lines                 so lines in a row are found again
@@ -15,7 +15,8 @@ use native.Mathlib.Numerals.{add-one}
 use native.Mathlib.Omega.{arith}
 use borrow.Author.Tests.{lt-ltb, leb-true}
 use lib.Dec.{leb}
-use lib.ListN.{length}
+use lib.IntN.{ℤ, pos}
+use lib.ListN.{length, getD}
 use lib.Seq.{drop-at, take-at}
 use Rattle.ground.specs.Tables.{cat, every}
 use Rattle.ground.proofs.Every.{and-split, every-append, every-cat, every-imply}
@@ -43,27 +44,26 @@ use Rattle.row_bytes.specs.Rows.{bytesOf}
 use Rattle.row_bytes.proofs.KindLaws.{by-kind}
 use Rattle.row_bytes.proofs.RowLaws.{bytes-text, bytes-binary}
 use Rattle.data.specs.Files.{misfitOf}
-use Rattle.data.proofs.FileLaws.{Writes, fits-text}
+use Rattle.data.proofs.FileLaws.{Writes, each-fits}
 use Rattle.paper.specs.Lines.{ended}
 use Rattle.paper.specs.Data as page
-use Rattle.paper.specs.Data.{InRange, sampleOf, TextEnding, TextFile, BinaryFile, DataFile}
-use Rattle.paper.specs.Written.{Fitting, RowsOf, Stands, EndingOf}
-use Rattle.exact_data.proofs.NumberLaws.{range-exactly}
+use Rattle.paper.specs.Data.{rowSample, TextEnding, TextFile, BinaryFile, DataFile}
+use Rattle.paper.specs.Written.{FitsIn, Fitting, RowsOf, Stands, EndingOf}
+use Rattle.exact_data.proofs.NumberLaws.{fits-exactly}
 use Rattle.exact_data.proofs.BinaryLaws.{row-exactly, binary-exactly}
 use Rattle.exact_data.proofs.TextLaws.{line-exactly, lines-front}
 use Rattle.exact_data.proofs.FileLaws.{as-text, as-binary}
 
-pub fits-exactly : (l : Layout) (r : Row) → misfitOf l r ≡ l .analogs ↔ ((j : ℕ) → j < l .analogs → InRange (l .kind) (sampleOf r j))
+pub row-fits-exactly : (l : Layout) (r : Row) → misfitOf l r ≡ l .analogs ↔ ((j : ℕ) → j < l .analogs → FitsIn l (rowSample r j))
 unfolding misfitOf
-fits-exactly l r = (
-  λ e j h. range-exactly (l .kind) (sampleOf r j) .0 (misfit-all (l .kind) (r .samples) (l .analogs) e j h),
-  λ f. all-misfit (l .kind) (r .samples) (l .analogs) (λ j h. range-exactly (l .kind) (sampleOf r j) .1 (f j h)),
-)
+row-fits-exactly l r =
+    let z : ℕ → ℤ = λ j. getD (r .samples) j (pos 0) in
+    (λ e j h. fits-exactly l (z j) .0 (misfit-all l (r .samples) e j h), λ f. all-misfit l (r .samples) (λ j h. fits-exactly l (z j) .1 (f j h)))
 
 pub fitting-exactly : (l : Layout) (r : Row) → Fitting l r ↔ Writes l r
 fitting-exactly l r = (
-  λ f. record { time = omega (arith, f .early); all = fits-exactly l r .1 (f .samples) },
-  λ w. record { early = omega (arith, w .time); samples = fits-exactly l r .0 (w .all) },
+  λ f. record { time = omega (arith, f .early); all = row-fits-exactly l r .1 (f .samples) },
+  λ w. record { early = omega (arith, w .time); samples = row-fits-exactly l r .0 (w .all) },
 )
 
 -- no byte of a line is CR
@@ -124,7 +124,7 @@ module _ (l : Layout) (s : List ℕ) (n : ℕ) (r : Row) (q : ℕ → Row) (size
       let y = lines-apart (lineOf l n r) (line (m + 0)) (st .after) rest (line-bytes-plain l n r) (t .each (m + 0) (omega arith) .bytes) (sym p ∙ x) .0 in
       let z : m + 0 ≡ m = omega arith in
       sym (line-exactly l (m + 1) (line m) (q m) .1 (t .each m (omega arith) .is) .1)
-      ∙ ap (rowOf l) (sym (rw z at y)) ∙ line-back l n r (fits-text l e r w)
+      ∙ ap (rowOf l) (sym (rw z at y)) ∙ line-back l n r (each-fits l r w)
     where
       as-rows : (k : Kind) → k ≡ Ascii → RowsOf k l (n - 1) (st .before) → RowsOf Ascii l (n - 1) (st .before)
       as-rows k e x = rw e at x
@@ -164,12 +164,12 @@ module _ (l : Layout) (r : ℕ → Row) (size : Sized l) (w : (i : ℕ) → i < 
         end = end;
         whole = ap (λ (x : List ℕ). x ++ end) (cat-ext (λ i. bytesOf l (i + 1) (r i)) (λ i. ended (line i)) (l .rows) (λ i k. bytes-text l e (i + 1) (r i)));
         each = λ i k.
-            let f = fits-text l e (r i) (w i k) in
+            let f = each-fits l (r i) (w i k) in
             record {
               bytes = line-bytes-plain l (i + 1) (r i);
               is = line-exactly l (i + 1) (line i) (trimmed l (r i)) .0 (line-fine l (i + 1) (r i) f (omega (arith, size .rows)), line-back l (i + 1) (r i) f);
             };
-        short = λ i k. let f = fits-text l e (r i) (w i k) in line-most l (i + 1) (r i) size (omega (arith, size .rows)) (f .time) (f .samples);
+        short = λ i k. let f = each-fits l (r i) (w i k) in line-most l (i + 1) (r i) size (omega (arith, size .rows)) (f .time) (f .samples);
         ends = h;
       }
 

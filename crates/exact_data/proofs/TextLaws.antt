@@ -1,4 +1,6 @@
 -- Files of text, exactly.
+--     number-some        a number is not empty
+--     sample-exactly     a field is read as a sample, or a missing one, exactly when it is that of the sample
 --     line-exactly       a row's line is fine, and says r, exactly when its fields are those of the row
 --     ending-exactly     what may follow the last row
 --     lines-front        lines in a row, the first of them at the front
@@ -14,14 +16,14 @@ use native.Mathlib.Numerals.{add-one}
 use native.Mathlib.Omega.{arith}
 use borrow.Author.Tests.{eqb-true, le-leb}
 use lib.Dec.{eqb}
-use lib.IntN.{ℤ}
-use lib.ListN.{length, take, drop}
+use lib.IntN.{ℤ, pos}
+use lib.ListN.{length, getD, take, drop}
 use lib.Seq.{take-append-seam, drop-append-add, length-take-le}
 use Rattle.ground.specs.Choice.{if_then_else_}
 use Rattle.ground.specs.Quoted.{quoted}
 use Rattle.ground.specs.Said.{says}
 use Rattle.ground.specs.Tables.{cat}
-use Rattle.ground.proofs.Cases.{clash}
+use Rattle.ground.proofs.Cases.{on-test, clash}
 use Rattle.ground.proofs.Every.{and-split}
 use Rattle.ground.proofs.SaidLaws.{must-holds, bind-told}
 use Rattle.ground.proofs.Tables.{tab-ext, cat-front, cat-ext}
@@ -29,23 +31,25 @@ use Rattle.text.specs.declared.Scanned.the-variants as scanned
 use Rattle.text.specs.Lines.{lineBytes}
 use Rattle.text.specs.Fields.{fieldCount, afterFields, fieldAt}
 use Rattle.text.proofs.LineLaws.{line-found, line-ended, line-scanned}
-use Rattle.model.specs.declared.Kind.the-variants.{Ascii}
 use Rattle.model.specs.declared.Layout.{Layout}
 use Rattle.model.specs.declared.Row.{Row}
 use Rattle.model.specs.Refusals.{refused}
+use Rattle.model.specs.Samples.{isMissing, sampleOf}
 use Rattle.model.specs.Rows.{latestTime, trimmed}
+use Rattle.model.proofs.SampleLaws.{missing-is, is-missing, holds-there}
+use Rattle.numerals.specs.declared.Whole.the-variants as whole
 use Rattle.ascii_row.specs.Fields.{readTimestamp, readSample, timeIn, sampleIn, statusIn}
 use Rattle.ascii_row.specs.Rows.{fieldsOf, checkLine, fieldSample, fieldStatus, rowOf}
-use Rattle.ascii_row.proofs.FieldLaws.{time-below, time-read, time-fine, sample-fits, sample-read, sample-fine}
+use Rattle.ascii_row.proofs.FieldLaws.{time-below, time-read, time-fine, SampleTold, sample-told, told-sample, whole-some, sample-read, sample-fine}
 use Rattle.ascii_row.proofs.LineLaws.{FineLine, line-told, line-is, sample-at, status-at, sample-there, status-there, row-trimmed}
 use Rattle.ascii_plain.specs.Rows.{statusChar}
 use Rattle.ascii_file.specs.Files.{scanRow, takeRow, isEnding, checkLines, checkText, lineTaken, firstLine, afterRows, textRow}
 use Rattle.ascii_file.proofs.Laws.{row-takes-told}
 use Rattle.ascii_file.proofs.RoundLaws.{status-back}
 use Rattle.ascii_file.proofs.PlainLaws.{status-again}
-use Rattle.paper.specs.Fields.{CountField}
+use Rattle.paper.specs.Fields.{CountField, WholeField}
 use Rattle.paper.specs.Lines.{ended}
-use Rattle.paper.specs.Data.{sampleOf, statusOf, SampleField, TextLine, TextEnding, TextFile}
+use Rattle.paper.specs.Data.{statusOf, SampleField, TextLine, TextEnding, TextFile}
 use Rattle.exact.proofs.CountLaws.{count-exactly}
 use Rattle.exact.proofs.WholeLaws.{whole-exactly}
 use Rattle.exact.proofs.CommaLaws.{fields-exactly, fields-of}
@@ -61,9 +65,30 @@ time-of : (f : List ℕ) (v : ℕ) → CountField 13 v f → v ≤ latestTime �
 unfolding timeIn readTimestamp
 time-of f v c h = rw (count-exactly 13 v f .1 c, le-leb v latestTime h)
 
-sample-of : (f : List ℕ) (z : ℤ) → SampleField z f → sampleIn f ≡ z
-unfolding sampleIn readSample
-sample-of f z w = rw (whole-exactly z f .1 (w .number), range-exactly Ascii z .1 (w .range))
+-- a number has a character
+pub number-some : (z : ℤ) → WholeField z [] → ⊥
+number-some z w = let q : true ≡ false = whole-some [] z (whole-exactly z [] .1 w) in clash (cc)
+
+module _ (l : Layout) (f : List ℕ) (z : ℤ) where
+  sample-to : SampleTold l f z → SampleField l (sampleOf z) f
+  unfolding sampleOf
+  sample-to (inl (e, n)) = rw (e, missing-is) n
+  sample-to (inr (e, h)) = rw (holds-there l z h) (whole-exactly z f .0 e, range-exactly l z .0 h)
+
+  sample-from : SampleField l (sampleOf z) f → SampleTold l f z
+  unfolding sampleOf
+  sample-from =
+      on-test (isMissing z)
+      (λ t. rw t (λ e. inl (is-missing z t, e)))
+      (λ t. rw t (λ e. inr (whole-exactly z f .1 (e .0), range-exactly l z .1 (e .1))))
+
+  pub sample-exactly : readSample l f ≡ whole.Is z ↔ SampleField l (sampleOf z) f
+  sample-exactly = (λ e. sample-to (sample-told l f z e), λ t. told-sample l f z (sample-from t))
+
+  -- what a field says is what the row has
+  sample-of : SampleField l (sampleOf z) f → sampleIn l f ≡ z
+  unfolding sampleIn
+  sample-of t = rw (sample-exactly .1 t)
 
 -- the line of row n
 module _ (l : Layout) (n : ℕ) (line : List ℕ) where
@@ -78,8 +103,7 @@ module _ (l : Layout) (n : ℕ) (line : List ℕ) where
         early = omega (arith, time-below (fieldAt 2 line));
         samples = λ i h.
             let f = fieldAt (3 + i) line in
-            rw (sample-there l line i h)
-            (record { number = whole-exactly (sampleIn f) f .0 (sample-read f (t .samples i h)); range = range-exactly Ascii (sampleIn f) .0 (sample-fits f) });
+            rw (sample-there l line i h) (sample-to l f (sampleIn l f) (sample-read l f (t .samples i h)));
         statuses = λ i h.
             let f = fieldAt (3 + l .analogs + i) line in
             rw (status-there l line i h) (sym (status-again f (t .statuses i h)) ∙ status-char (statusIn f));
@@ -104,9 +128,8 @@ module _ (l : Layout) (n : ℕ) (line : List ℕ) where
           number = rw (the-fields .1 1 (omega arith) (omega arith)) (count-exactly 10 n (t .f 1) .1 (t .number));
           time = rw (the-fields .1 2 (omega arith) (omega arith)) (time-fine (t .f 2) (r .time) (count-exactly 13 (r .time) (t .f 2) .1 (t .time)) (t .early));
           samples = λ i h.
-              let s = t .samples i h in
-              rw (the-fields .1 (3 + i) (omega arith) (omega arith))
-              (sample-fine (t .f (3 + i)) (sampleOf r i) (whole-exactly (sampleOf r i) (t .f (3 + i)) .1 (s .number)) (range-exactly Ascii (sampleOf r i) .1 (s .range)));
+              let z = getD (r .samples) i (pos 0) in
+              rw (the-fields .1 (3 + i) (omega arith) (omega arith)) (sample-fine l (t .f (3 + i)) z (sample-from l (t .f (3 + i)) z (t .samples i h)));
           statuses = λ i h. rw (status-field i h) (status-back (statusOf r i) .0);
         })
 
@@ -116,8 +139,8 @@ module _ (l : Layout) (n : ℕ) (line : List ℕ) where
         rw (
           the-fields .1 2 (omega arith) (omega arith),
           time-of (t .f 2) (r .time) (t .time) (t .early),
-          tab-ext (fieldSample (afterFields 2 line)) (sampleOf r) (l .analogs)
-              (λ i h. sample-at line i ∙ ap sampleIn (the-fields .1 (3 + i) (omega arith) (omega arith)) ∙ sample-of (t .f (3 + i)) (sampleOf r i) (t .samples i h)),
+          tab-ext (fieldSample l (afterFields 2 line)) (λ i. getD (r .samples) i (pos 0)) (l .analogs)
+              (λ i h. sample-at l line i ∙ ap (sampleIn l) (the-fields .1 (3 + i) (omega arith) (omega arith)) ∙ sample-of l (t .f (3 + i)) (getD (r .samples) i (pos 0)) (t .samples i h)),
           tab-ext (fieldStatus (afterFields (2 + l .analogs) line)) (statusOf r) (l .statuses)
               (λ i h. status-at l line i ∙ ap statusIn (status-field i h) ∙ status-back (statusOf r i) .1),
         )

@@ -15,29 +15,33 @@ use Rattle.model.specs.declared.Kind.{Kind}
 use Rattle.model.specs.declared.Kind.the-variants.{Ascii, Binary, Binary32}
 use Rattle.model.specs.declared.Layout.{Layout}
 use Rattle.model.specs.declared.Row.{Row}
+use Rattle.model.specs.declared.Sample.{Sample}
+use Rattle.model.specs.declared.Sample.the-variants.{Is, Missing, No}
 use Rattle.model.specs.Kinds.{widthOf, lowestOf, highestOf}
+use Rattle.model.specs.Samples.{sampleOf}
 use Rattle.model.specs.Rows.{latestTime, trimmed}
 use Rattle.paper.specs.Fields.{CountField, WholeField}
 use Rattle.paper.specs.Lines.{Line, ended, Fields}
 
--- a sample within the range of a kind
-pub record InRange (k : Kind) (z : ℤ) : Type 0 where
-  pub low : lowestOf k ≤ℤ z
-  pub high : z ≤ℤ highestOf k
+-- a number within the range of the layout's kind
+pub record InRange (l : Layout) (z : ℤ) : Type 0 where
+  pub low : lowestOf (l .kind) ≤ℤ z
+  pub high : z ≤ℤ highestOf (l .kind)
 
--- sample i of a row, counted from 0
-abbrev pub sampleOf : Row → ℕ → ℤ
-sampleOf r i = getD (r .samples) i (pos 0)
+-- what a row says of its analog channel i, counted from 0: a sample, or that it is missing
+abbrev pub rowSample : Row → ℕ → Sample
+rowSample r i = sampleOf (getD (r .samples) i (pos 0))
 
 -- status i of a row, counted from 0
 abbrev pub statusOf : Row → ℕ → Bool
 statusOf r i = getD (r .statuses) i false
 
 -- TEXT
--- a sample in text: a whole number in the range of text
-pub record SampleField (z : ℤ) (f : List ℕ) : Type 0 where
-  pub number : WholeField z f
-  pub range : InRange Ascii z
+-- a sample in text: a whole number of 1 to 13 characters within the range; a missing one is an empty field
+abbrev pub SampleField : Layout → Sample → List ℕ → Type 0
+SampleField l (Is z) f = WholeField z f × InRange l z
+SampleField l Missing f = f ≡ []
+SampleField l (No r) f = ⊥
 
 -- the line of row n, which is r: number, timestamp, A samples, D statuses; r is zero past them
 pub record TextLine (l : Layout) (n : ℕ) (r : Row) (line : List ℕ) : Type 0 where
@@ -46,7 +50,7 @@ pub record TextLine (l : Layout) (n : ℕ) (r : Row) (line : List ℕ) : Type 0 
   pub number : CountField 10 n (f 1)
   pub time : CountField 13 (r .time) (f 2)
   pub early : r .time ≤ latestTime
-  pub samples : (i : ℕ) → i < l .analogs → SampleField (sampleOf r i) (f (3 + i))
+  pub samples : (i : ℕ) → i < l .analogs → SampleField l (rowSample r i) (f (3 + i))
   pub statuses : (i : ℕ) → i < l .statuses → f (3 + l .analogs + i) ≡ (if statusOf r i then quoted "1" else quoted "0")
   pub beyond : trimmed l r ≡ r
 
@@ -73,6 +77,12 @@ lowFirst (b ∷ l) = b + 256 * lowFirst l
 abbrev pub TwosComplement : ℕ → ℕ → ℤ → Type 0
 TwosComplement w v z = ((pos v ≡ z) × (v < 256 ^ w / 2)) ⊎ ((pos v ≡ z +ℤ pos (256 ^ w)) × (256 ^ w / 2 ≤ v))
 
+-- v, of w bytes, is a sample: in two's complement; the lowest pattern, 8000 or 80000000 hex, is a missing one and nothing else
+abbrev pub SampleWord : ℕ → ℕ → Sample → Type 0
+SampleWord w v (Is z) = (v ≡ 256 ^ w / 2 → ⊥) × TwosComplement w v z
+SampleWord w v Missing = v ≡ 256 ^ w / 2
+SampleWord w v (No r) = ⊥
+
 -- how many words hold the statuses: D / 16 rounded up
 abbrev pub wordCount : Layout → ℕ
 wordCount l = (l .statuses + 15) / 16
@@ -98,7 +108,7 @@ pub record BinaryRow (l : Layout) (n : ℕ) (r : Row) (b : List ℕ) : Type 0 wh
   pub size : length b ≡ rowSize l
   pub number : lowFirst (part 0 4 b) ≡ n
   pub time : lowFirst (part 4 8 b) ≡ r .time
-  pub samples : (i : ℕ) → i < l .analogs → TwosComplement (widthOf (l .kind)) (lowFirst (part (8 + i * widthOf (l .kind)) (8 + i * widthOf (l .kind) + widthOf (l .kind)) b)) (sampleOf r i)
+  pub samples : (i : ℕ) → i < l .analogs → SampleWord (widthOf (l .kind)) (lowFirst (part (8 + i * widthOf (l .kind)) (8 + i * widthOf (l .kind) + widthOf (l .kind)) b)) (rowSample r i)
   pub statuses : (i : ℕ) → i < 16 * wordCount l → isOn (i % 16) (statusWord l (i / 16) b) ≡ (ltb i (l .statuses) && statusOf r i)
   pub beyond : trimmed l r ≡ r
 

@@ -4,23 +4,35 @@ use mathlib.Core.Logic.{_⊎_}
 use mathlib.Core.Bool.{true}
 use mathlib.Core.List.{List, [], _∷_, _++_}
 use Prim.Native.Nat.{ℕ, _+_, _-_, _*_, _≤_, _<_}
+use lib.IntN.{ℤ}
 use lib.ListN.{length, getD}
+use lib.Signed.{_<ℤ_}
 use Rattle.ground.specs.Quoted.{quoted}
 use Rattle.ground.specs.Tables.{cat, every}
 use Rattle.model.specs.declared.Kind.{Kind}
 use Rattle.model.specs.declared.Kind.the-variants.{Ascii, Binary, Binary32}
 use Rattle.model.specs.declared.Layout.{Layout}
 use Rattle.model.specs.declared.Row.{Row}
+use Rattle.model.specs.declared.Sample.{Sample}
+use Rattle.model.specs.declared.Sample.the-variants.{Is, Missing, No}
+use Rattle.model.specs.Kinds.{lowestOf, highestOf}
+use Rattle.model.specs.Layouts.{inKind}
 use Rattle.model.specs.Rows.{latestTime}
 use Rattle.paper.specs.Fields.{isBetween, SomeDigits}
 use Rattle.paper.specs.Lines.{Line, ended, Fields}
-use Rattle.paper.specs.Data.{InRange, sampleOf, TextEnding, TextFile, rowSize}
+use Rattle.paper.specs.Data.{InRange, rowSample, TextEnding, TextFile, rowSize}
 
 -- WRITTEN ROWS
--- a row that fits a layout: its timestamp has 32 bits, and each of its A samples is in the kind's range
+-- a sample that fits a layout: it is in the range, or missing
+abbrev pub FitsIn : Layout → Sample → Type 0
+FitsIn l (Is z) = InRange l z
+FitsIn l Missing = Unit {0}
+FitsIn l (No r) = ⊥
+
+-- a row that fits a layout: its timestamp has 32 bits, and each of its A samples fits
 pub record Fitting (l : Layout) (r : Row) : Type 0 where
   pub early : r .time ≤ latestTime
-  pub samples : (i : ℕ) → i < l .analogs → InRange (l .kind) (sampleOf r i)
+  pub samples : (i : ℕ) → i < l .analogs → FitsIn l (rowSample r i)
 
 -- t is m rows of a file of a kind: m lines with CR LF, or m times the bytes of a row
 abbrev pub RowsOf : Kind → Layout → ℕ → List ℕ → Type 0
@@ -51,13 +63,17 @@ pub record PlainCount (f : List ℕ) : Type 0 where
 abbrev pub PlainWhole : List ℕ → Type 0
 PlainWhole f = PlainCount f ⊎ ((d : List ℕ) × (f ≡ quoted "-" ++ d) × PlainCount d × (d ≡ quoted "0" → ⊥))
 
+-- a plain sample: a plain whole number, or nothing for a missing one
+abbrev pub PlainSample : List ℕ → Type 0
+PlainSample f = PlainWhole f ⊎ (f ≡ [])
+
 -- a plain line: its number, its timestamp and its samples are plain
 pub record PlainLine (l : Layout) (line : List ℕ) : Type 0 where
   pub f : ℕ → List ℕ
   pub fields : Fields (2 + l .analogs + l .statuses) f line
   pub number : PlainCount (f 1)
   pub time : PlainCount (f 2)
-  pub samples : (i : ℕ) → i < l .analogs → PlainWhole (f (3 + i))
+  pub samples : (i : ℕ) → i < l .analogs → PlainSample (f (3 + i))
 
 -- a plain text: such a line for each row, with CR LF, and 1A 0D 0A after the last
 pub record PlainText (l : Layout) (s : List ℕ) : Type 0 where
@@ -72,14 +88,16 @@ Restored Binary l r s t = t ≡ s
 Restored Binary32 l r s t = t ≡ s
 
 -- THE CHANGE OF KIND
--- every sample of every row is in the range of kind k
+-- every sample of every row is in the range of kind k, or missing
 abbrev pub AllInRange : Layout → Kind → (ℕ → Row) → Type 0
-AllInRange l k r = (i j : ℕ) → i < l .rows → j < l .analogs → InRange k (sampleOf (r i) j)
+AllInRange l k r = (i j : ℕ) → i < l .rows → j < l .analogs → FitsIn (inKind k l) (rowSample (r i) j)
 
--- sample j of row i, both counted from 0, is the first that is outside the range of kind k: no row before has one, and row i none before it
+-- sample j of row i, both counted from 0, is the first that is outside the range of kind k: it is there, it is below the lowest or above the highest, no row before has one, and row i none before it
 pub record FirstOutside (l : Layout) (k : Kind) (r : ℕ → Row) (i j : ℕ) : Type 0 where
   pub row : i < l .rows
   pub sample : j < l .analogs
-  pub outside : InRange k (sampleOf (r i) j) → ⊥
-  pub rowsBefore : (p q : ℕ) → p < i → q < l .analogs → InRange k (sampleOf (r p) q)
-  pub samplesBefore : (q : ℕ) → q < j → InRange k (sampleOf (r i) q)
+  pub number : ℤ
+  pub there : rowSample (r i) j ≡ Is number
+  pub outside : (number <ℤ lowestOf k) ⊎ (highestOf k <ℤ number)
+  pub rowsBefore : (p q : ℕ) → p < i → q < l .analogs → FitsIn (inKind k l) (rowSample (r p) q)
+  pub samplesBefore : (q : ℕ) → q < j → FitsIn (inKind k l) (rowSample (r i) q)

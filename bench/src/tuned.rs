@@ -128,20 +128,43 @@ fn put_row(a: u32, d: u32, rows: u32, kind: u32, n: u32, row: &[i64], out: &mut 
     }
 }
 
-/// The first place of a row that does not fit a kind of samples of `bits` bits, as 16 at row n. The tests are gathered
-/// by "or" without a branch; only a row that fails is looked through.
-fn fits(layout: &Layout, n: u32, row: &[i64], bits: u32) -> Result<(), Answer> {
+/// A missing sample while it is read or written: the lowest number of 32 bits, which no sample is.
+const MISSING: i32 = i32::MIN;
+
+/// A missing sample in a row that is shown or given.
+const NONE: i64 = i64::MIN;
+
+/// The place that shows a sample.
+#[inline(always)]
+fn place_of(sample: i32) -> i64 {
+    if sample == MISSING {
+        NONE
+    } else {
+        i64::from(sample)
+    }
+}
+
+/// The sample that a place gives which fits: its low bits, and its sign, which is all that there is of a missing one.
+#[inline(always)]
+fn given(place: i64) -> i32 {
+    place as i32 | (place >> 32) as i32 & MISSING
+}
+
+/// The first place of a row that does not fit a kind of samples of `bits` bits, as 16 at row n; else whether a sample is
+/// missing. The tests are gathered by "or" without a branch; only a row that fails is looked through. The distance of a
+/// sample from zero has fewer bits than the kind; that of a missing one is the highest of 64 alone, which is left out.
+fn fits(layout: &Layout, n: u32, row: &[i64], bits: u32) -> Result<bool, Answer> {
     let (samples, statuses) = row[1..].split_at(layout.a);
-    let outside = |sample: i64| sample.wrapping_add(1 << (bits - 1)) as u64 >> bits;
+    let outside = |distance: u64| distance << 1 >> bits;
     let time = row[0] as u64 >> 32;
-    let sample = samples.iter().fold(0, |bad, &sample| bad | outside(sample));
+    let distances = samples.iter().fold(0, |all, sample| all | sample.unsigned_abs());
     let status = statuses.iter().fold(0, |bad, &status| bad | status as u64 >> 1);
-    if time | sample | status == 0 {
-        return Ok(());
+    if time | outside(distances) | status == 0 {
+        return Ok(distances >> 63 != 0);
     }
     let place = if time != 0 {
         0
-    } else if let Some(place) = samples.iter().position(|&sample| outside(sample) != 0) {
+    } else if let Some(place) = samples.iter().position(|sample| outside(sample.unsigned_abs()) != 0) {
         1 + place
     } else {
         1 + layout.a + statuses.iter().position(|&status| status as u64 > 1).unwrap_or(0)

@@ -88,8 +88,9 @@ fn rows_are_written_alike() {
 #[test]
 fn kinds_are_changed_alike() {
     let (mut dice, mut met) = (Dice::new(4), Met([0; 18]));
+    let mut carried = 0;
     for _ in 0..40_000 {
-        let Recording { a, d, rows, kind, data, .. } = Recording::made(&mut dice);
+        let Recording { a, d, rows, kind, values, data } = Recording::made(&mut dice);
         let new_kind = if dice.once_in(40) { 3 } else { dice.below(3) as u32 };
         let needed = tuned::length(a, d, rows, kind, &data, new_kind);
         assert_eq!(needed, of_second(second::length(a, d, rows, kind, &data, new_kind)));
@@ -99,8 +100,10 @@ fn kinds_are_changed_alike() {
         for room in [length + 5, length, length.saturating_sub(1)] {
             compare(room, 0xEE, &mut met, tuned, second);
         }
+        carried += u32::from(needed.number == 0 && kind != new_kind && values.concat().contains(&made::NONE));
     }
     met.all_of(&[0, 10, 11, 12, 13, 14, 16, 17]);
+    assert!(carried >= 1_000, "a missing sample was carried by {carried} changes");
 }
 
 #[test]

@@ -9,12 +9,12 @@ use std::ops::RangeInclusive;
 
 /// Spellings of a text row's number, time, samples and statuses.
 #[rustfmt::skip]
-pub const FIELDS: [&str; 70] = [
+pub const FIELDS: [&str; 76] = [
     "", " ", "0", "1", "2", "3", "-0", "+0", "-1", "+1", "- 1", "+ 1", "-", "+", "--1", "+-1", " 1", "1 ", "01", " 01", "0 1",
     "1.0", "1E0", "x", "0x1", "/", ":", "/1", "1:", "0000000001", "         1", "00000000001", "          1", "00000000002",
     "0000000000001", "            1", "00000000000001", "             1", "-000000000001", "+000000000001", "-0000000000001",
-    "           -1", "            -1", "32767", "32768", "-32768", "-32769", "2147483647", "2147483648", "-2147483648",
-    "-2147483649", "+2147483647", "+2147483648", "4294967295", "4294967296", "004294967295", "9999999999", "9999999999999",
+    "           -1", "            -1", "32767", "32768", "-32767", "-32768", "-32769", "2147483647", "2147483648",
+    "-2147483647", "-2147483648", "-2147483649", "-002147483647", "-002147483648", "             ", "              ", "+2147483647", "+2147483648", "4294967295", "4294967296", "004294967295", "9999999999", "9999999999999",
     "-999999999999", "99999999999999", "4294967297", "4294967298", "-4294967295", "10", "11", "21", "00", "11 ", "true", "\"1\"",
 ];
 
@@ -30,7 +30,7 @@ pub const ENDINGS: [&[u8]; 24] = [
 const SMALL: [(u32, u32, u32); 4] = [(1, 1, 2), (2, 17, 2), (0, 16, 2), (3, 0, 1)];
 
 /// Rows of text with spaces, zeros and signs, at the edges of their ranges: A = 2, D = 1.
-const SPELLED: &[u8] = b" 01,  0007,-0,+5,1\r\n0000000002,4294967295,-2147483648,0000000000012,0\r\n";
+const SPELLED: &[u8] = b" 01,  0007,-0,+5,1\r\n0000000002,4294967295,-2147483647,0000000000012,0\r\n";
 
 /// Layouts on both sides of words of statuses, of few and many channels and rows.
 #[rustfmt::skip]
@@ -211,7 +211,7 @@ fn two_samples_to_change(walk: &mut Walk, recording: &Recording) {
         for &(other_row, other_place) in &places {
             for room in [0, 5000] {
                 walk.case(|| {
-                    let recording = recording.with(row, place, 32_768).with(other_row, other_place, -32_769);
+                    let recording = recording.with(row, place, 32_768).with(other_row, other_place, -32_768);
                     Case::Change { layout, file: recording.bytes(), new_kind: 1, room }
                 });
             }

@@ -2,25 +2,26 @@
 
 use crate::case::Layout;
 use crate::draft::count;
+use crate::words::MISSING;
 use dice::Dice;
 
 /// The mark that ends a plain text file.
 pub const MARK: &[u8] = b"\x1a\r\n";
 
-/// Samples at the edges of the kinds, and where a plain decimal gets a digit more.
+/// Samples at the edges of the kinds, and where a plain decimal gets a digit more; a missing one.
 #[rustfmt::skip]
-pub const SAMPLES: [i64; 44] = [
+pub const SAMPLES: [i64; 45] = [
     0, 1, -1, 9, 10, -9, -10, 99, 100, 127, 128, -128, -129, 255, 256, 999, 1000, 9_999, 10_000, 32_766, 32_767, 32_768,
     -32_767, -32_768, -32_769, 65_535, 65_536, 99_999, 100_000, 999_999, 1_000_000, 9_999_999, 10_000_000, 99_999_999,
     100_000_000, 999_999_999, 1_000_000_000, -999_999_999, -1_000_000_000, 2_147_483_646, 2_147_483_647,
-    -2_147_483_647, -2_147_483_648, -100,
+    -2_147_483_647, -2_147_483_648, -100, MISSING,
 ];
 
 /// Numbers that fit no field, beside those at the edges.
 #[rustfmt::skip]
-pub const BEYOND: [i64; 14] = [
+pub const BEYOND: [i64; 13] = [
     2_147_483_648, -2_147_483_649, 4_294_967_294, 4_294_967_295, 4_294_967_296, -4_294_967_296, 4_294_967_297, 2,
-    -2, i64::MAX, i64::MIN, i64::MIN + 1, 1 << 32 | 5, 65_537,
+    -2, i64::MAX, MISSING + 1, 1 << 32 | 5, 65_537,
 ];
 
 /// A file's rows: of each its time, samples and statuses.
@@ -30,14 +31,29 @@ pub struct Recording {
     pub rows: Vec<Vec<i64>>,
 }
 
+/// Bytes of a sample in a binary kind.
+fn width(kind: u32) -> usize {
+    match kind {
+        1 => 2,
+        _ => 4,
+    }
+}
+
+/// The pattern that a binary kind keeps for a missing sample.
+fn missing_pattern(kind: u32) -> &'static [u8] {
+    &[0x00, 0x00, 0x00, 0x80][4 - width(kind)..]
+}
+
 /// A row's bytes in a binary kind.
 fn binary_row(layout: Layout, n: u32, row: &[i64]) -> Vec<u8> {
-    let width = if layout.kind == 1 { 2 } else { 4 };
     let (samples, statuses) = row[1..].split_at(layout.a as usize);
     let mut bytes = n.to_le_bytes().to_vec();
     bytes.extend_from_slice(&row[0].to_le_bytes()[..4]);
-    for sample in samples {
-        bytes.extend_from_slice(&sample.to_le_bytes()[..width]);
+    for &sample in samples {
+        match sample {
+            MISSING => bytes.extend_from_slice(missing_pattern(layout.kind)),
+            number => bytes.extend_from_slice(&number.to_le_bytes()[..width(layout.kind)]),
+        }
     }
     for sixteen in statuses.chunks(16) {
         let word = sixteen.iter().rev().fold(0u16, |word, &status| word << 1 | status as u16);
@@ -48,7 +64,19 @@ fn binary_row(layout: Layout, n: u32, row: &[i64]) -> Vec<u8> {
 
 /// A row's fields as plain text.
 pub fn text_fields(n: u32, row: &[i64]) -> Vec<String> {
-    [i64::from(n)].iter().chain(row).map(i64::to_string).collect()
+    let field = |&number: &i64| if number == MISSING { String::new() } else { number.to_string() };
+    [i64::from(n)].iter().chain(row).map(field).collect()
+}
+
+/// Whether a file that passes its check has a missing sample.
+pub fn has_missing(layout: Layout, file: &[u8]) -> bool {
+    if layout.kind == 0 {
+        return file.windows(2).any(|pair| matches!(pair, b",," | b",\r"));
+    }
+    let (width, a) = (width(layout.kind), layout.a as usize);
+    let missing = |bytes: &[u8]| bytes == missing_pattern(layout.kind);
+    let mut rows = file.chunks_exact(file.len() / layout.rows as usize);
+    rows.any(|row| row[8..8 + a * width].chunks_exact(width).any(missing))
 }
 
 /// The fields of the longest row that there is, 1,880 bytes: A = 96, D = 256, each field as long as it may be.
@@ -96,6 +124,11 @@ impl Recording {
         Recording { layout, rows: (1..=layout.rows).map(|n| plain_row(layout, n)).collect() }
     }
 
+    /// The same with missing samples in some places of a row, which is counted from 0.
+    pub fn without(&self, row: usize, places: impl IntoIterator<Item = usize>) -> Recording {
+        places.into_iter().fold(self.clone(), |recording, place| recording.with(row, place, MISSING))
+    }
+
     /// The same with another number in a place of a row, which is counted from 0.
     pub fn with(&self, row: usize, place: usize, number: i64) -> Recording {
         let mut recording = self.clone();
@@ -120,16 +153,21 @@ impl Recording {
         (1..).zip(&self.rows).map(|(n, row)| text_fields(n, row)).collect()
     }
 
-    /// Rows of random numbers that fit the kind; most often they fit the binary kind too.
+    /// Rows of random samples that fit the kind; most often they fit the binary kind too. In half of the files about one sample in 1, 2, 4 or 16 is missing.
     pub fn random(dice: &mut Dice, layout: Layout) -> Recording {
         let narrow = layout.kind == 1 || dice.below(3) > 0;
+        let missing = dice.pick(&[0, 0, 0, 0, 1, 2, 4, 16]);
+        let highest = if narrow { 32_767 } else { 2_147_483_647 };
         let sample = |dice: &mut Dice| loop {
+            if missing > 0 && dice.once_in(missing) {
+                return MISSING;
+            }
             let sample = match dice.below(3) {
                 0 => dice.pick(&SAMPLES),
                 1 => dice.within(-40, 40),
                 _ => dice.word() as i64 >> if dice.once_in(2) { 32 } else { 48 },
             };
-            if !narrow || i16::try_from(sample).is_ok() {
+            if (-highest..=highest).contains(&sample) {
                 return sample;
             }
         };
@@ -149,7 +187,7 @@ impl Recording {
         let samples = 2..2 + self.layout.a as usize;
         for line in &mut lines {
             for (k, field) in line.iter_mut().enumerate().take(samples.end) {
-                if dice.below(6) > 0 {
+                if dice.below(6) > 0 || field.is_empty() {
                     continue;
                 }
                 let number: i64 = field.parse().unwrap_or(0);

@@ -4,11 +4,12 @@ use crate::buffer::{bytes_of, Buffer};
 use crate::case::{Case, Layout, POSSIBLE};
 use crate::configs::config;
 use crate::draft::MOST_BYTES;
+use crate::files::has_missing;
 use crate::lent::{Flush, Lent};
 use crate::library;
 use crate::rules::is_bare;
 use crate::watch;
-use crate::words;
+use crate::words::{self, MISSING};
 use second::Answer;
 
 /// Bytes of a file above which a change is followed by no more than a length and a check, so that it does not take seconds.
@@ -27,6 +28,12 @@ pub struct Expected {
     pub bytes: Vec<u8>,
     /// The line that says so.
     pub line: String,
+}
+
+/// An answer that is right, and whether it is a "yes" to a row or a file with a missing sample.
+pub struct Judged {
+    pub answer: Answer,
+    pub missing: bool,
 }
 
 /// The lent buffers and what stands in them.
@@ -72,6 +79,19 @@ fn well_formed(case: &Case, answer: Answer) -> Result<(), String> {
         return Ok(());
     }
     Err(format!("both answer {}, which this call can't", spelled(answer)))
+}
+
+/// What every row that is shown keeps: its time has 32 bits, a sample is missing or within the range of its kind, and a status is 0 or 1.
+fn row_in_range(layout: Layout, row: &[i64]) -> Result<(), String> {
+    let (samples, statuses) = row[1..].split_at(layout.a as usize);
+    let highest = if layout.kind == 1 { 32_767 } else { 2_147_483_647 };
+    let fine = u32::try_from(row[0]).is_ok()
+        && samples.iter().all(|sample| *sample == MISSING || (-highest..=highest).contains(sample))
+        && statuses.iter().all(|status| matches!(status, 0 | 1));
+    if fine {
+        return Ok(());
+    }
+    Err(format!("both show {}, which is out of range", words::listed(row)))
 }
 
 /// The text of a reason, from those that the library gave; numbers without a text are 10, and 17 comes last.
@@ -164,14 +184,30 @@ impl Judge {
         self.after.bytes()[..length].to_vec()
     }
 
+    /// Whether a case that was just answered "yes" is about a row or a file with a missing sample.
+    fn meets_missing(&mut self, case: &Case) -> bool {
+        let samples = |layout: &Layout| 1..1 + layout.a as usize;
+        match case {
+            Case::Row { layout, .. } => self.after.places_mut()[samples(layout)].contains(&MISSING),
+            Case::WriteRow { layout, row, .. } => row[samples(layout)].contains(&MISSING),
+            Case::Check { layout, file } => has_missing(*layout, file),
+            Case::Length { layout, file, .. } | Case::Change { layout, file, .. } => has_missing(*layout, file),
+            Case::Config { .. } | Case::WriteConfig { .. } | Case::Reason { .. } => false,
+        }
+    }
+
     /// Judges a case with what follows from it: the answer, or what is wrong. The buffers are filled by the word.
-    pub fn judge(&mut self, case: &Case, expected: Option<&Expected>, word: u64) -> Result<Answer, String> {
+    pub fn judge(&mut self, case: &Case, expected: Option<&Expected>, word: u64) -> Result<Judged, String> {
         self.word = word;
         let answer = self.compare(case)?;
         if let Some(expected) = expected {
             self.hold(answer, expected)?;
         }
+        let missing = answer.number == 0 && self.meets_missing(case);
         match case {
+            Case::Row { layout, .. } if answer.number == 0 => {
+                row_in_range(*layout, &self.after.places_mut()[..layout.places()])?
+            }
             Case::Change { layout, file, new_kind, room } => {
                 self.follow_change(*layout, file, *new_kind, *room, answer)?
             }
@@ -179,7 +215,7 @@ impl Judge {
             Case::WriteConfig { cfg, kind, room } => self.follow_config(cfg, *kind, *room, answer)?,
             _ => (),
         }
-        Ok(answer)
+        Ok(Judged { answer, missing })
     }
 
     /// Holds the answer, what is shown and what is written to what they must be.

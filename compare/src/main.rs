@@ -13,6 +13,7 @@ mod kept;
 mod lent;
 mod library;
 mod misfits;
+mod missing;
 mod random;
 mod rewritten;
 mod rules;
@@ -24,7 +25,7 @@ mod watch;
 mod words;
 
 use case::Case;
-use judge::{Expected, Judge};
+use judge::{Expected, Judge, Judged};
 use std::process::ExitCode;
 use std::sync::atomic::{AtomicBool, AtomicU64, Ordering};
 use std::time::{Duration, Instant};
@@ -89,6 +90,7 @@ fn walk_family(walk: &mut Walk, family: Family, settings: &Settings, random: u64
             seams::walk(walk);
             spellings::walk(walk);
             misfits::walk(walk);
+            missing::walk(walk);
         }
         Family::Random => walk.indexed(random, |index| random::case(settings.seed, index)),
     }
@@ -128,7 +130,7 @@ impl Worker {
         watch::begin(number);
         self.found.cases += 1;
         match self.judge.judge(case, expected, dice::mix(number.packed())) {
-            Ok(answer) => self.found.tally.count(number.family, case, answer),
+            Ok(Judged { answer, missing }) => self.found.tally.count(number.family, case, answer, missing),
             Err(what) => {
                 self.found.differ += 1;
                 if self.found.said.len() < PRINTED {
@@ -222,9 +224,9 @@ fn main() -> ExitCode {
     };
     if settings.only.is_none() {
         println!("{}\n\n{}\n", found.tally.table(false), found.tally.table(true));
-        let missing = found.tally.missing();
-        found.differ += missing.len() as u64;
-        found.said.splice(0..0, missing);
+        let never_given = found.tally.never_given();
+        found.differ += never_given.len() as u64;
+        found.said.splice(0..0, never_given);
     }
     found.said.truncate(PRINTED);
     for what in &found.said {

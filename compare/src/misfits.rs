@@ -10,10 +10,10 @@ use crate::walk::Walk;
 const ANALOGS: [u32; 9] = [1, 2, 7, 8, 9, 15, 16, 17, 96];
 
 /// Samples that do not fit the binary kind.
-const MISFITS: [i64; 4] = [32_768, -32_769, i32::MAX as i64, i32::MIN as i64];
+const MISFITS: [i64; 5] = [32_768, -32_768, -32_769, 2_147_483_647, -2_147_483_647];
 
 /// Samples that just do.
-const FITS: [i64; 2] = [32_767, -32_768];
+const FITS: [i64; 2] = [32_767, -32_767];
 
 /// All cases, in an order that stays.
 pub fn walk(walk: &mut Walk) {
@@ -69,7 +69,7 @@ fn one_written(walk: &mut Walk, recording: &Recording) {
     let layout = recording.layout;
     let half = if layout.kind == 1 { 1 << 15 } else { 1 << 31 };
     for place in 1..=layout.a as usize {
-        for sample in [half, -half - 1, half - 1, -half] {
+        for sample in [half, -half - 1, -half, half - 1, 1 - half] {
             walk.case(|| {
                 let row = recording.with(1, place, sample).rows[1].clone();
                 Case::WriteRow { layout, n: 2, row, room: 3000 }
@@ -97,7 +97,7 @@ fn two_misfits(walk: &mut Walk, recording: &Recording) {
     let places: Vec<(usize, usize)> = (0..3).flat_map(|row| [1, 8, 9, 16, 17].map(move |place| (row, place))).collect();
     for &(row, place) in &places {
         for &(other_row, other_place) in &places {
-            let file = || recording.with(row, place, 32_768).with(other_row, other_place, -32_769).bytes();
+            let file = || recording.with(row, place, 32_768).with(other_row, other_place, -32_768).bytes();
             length_and_change(walk, recording.layout, 1, &file);
         }
     }

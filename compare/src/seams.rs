@@ -25,6 +25,7 @@ const ENDS: [&[u8]; 11] = [
 /// All cases, in an order that stays.
 pub fn walk(walk: &mut Walk) {
     rows_in_eights(walk);
+    missing_in_eights(walk);
     lines_in_eights(walk);
     statuses_in_fours(walk);
     many_statuses(walk);
@@ -82,7 +83,22 @@ fn rows_in_eights(walk: &mut Walk) {
     }
 }
 
-/// The same in the first line of a configuration and in one between others: a name fills it up.
+/// Faults at every byte of a row with missing samples, alone and two together, which is longer by 0 to 7 bytes.
+fn missing_in_eights(walk: &mut Walk) {
+    let layout = Layout::new(6, 2, 3, 0);
+    let missing = [1, 3, 4, 6];
+    let plain = Recording::plain(layout).without(0, missing).without(1, missing).without(2, missing).lines();
+    for more in 0..8 {
+        let (row, mut lines) = (more % 3, plain.clone());
+        let length = lines[row].join(",").len() + more;
+        lines[row] = filled(lines[row].clone(), length);
+        let (start, file) = (start_of(&lines, row), text(&lines, MARK));
+        let damages = [faults(), vec![Damage::Insert(b' '), Damage::Replace(b' ')]].concat();
+        damaged_at(walk, layout, &file, start..=start + length + 2, &damages);
+    }
+}
+
+/// The same lengths and faults in the first line of a configuration and in one between others: a name fills it up.
 fn lines_in_eights(walk: &mut Walk) {
     let plain = Draft::of(RECORDING);
     for (line, field, least) in [(0, 0, 24), (2, 1, 40)] {

@@ -5,11 +5,17 @@ use crate::draft::MOST_BYTES;
 use crate::walk::Family;
 use second::Answer;
 
-/// What is counted of a call: 0 for yes, 1 to 17 for no, and `LONG_RESULT`.
-const COUNTED: usize = 19;
+/// What is counted of a call: 0 for yes, 1 to 17 for no, `LONG_RESULT` and `YES_MISSING`.
+const COUNTED: usize = 20;
 
 /// The refusal 1 of a configuration that would be too long as it is written: the one that was read is not.
 const LONG_RESULT: usize = 18;
+
+/// A "yes" to a row or a file with a missing sample.
+const YES_MISSING: usize = 19;
+
+/// The calls that can meet one.
+const MEET_MISSING: [&str; 5] = ["check", "row", "write_row", "length", "change"];
 
 /// Counts of answers by call and number, the random cases apart from the others.
 #[derive(Default, Clone)]
@@ -21,8 +27,9 @@ fn part(family: Family) -> usize {
 }
 
 /// What an answer to a case is counted as.
-fn counted_as(case: &Case, answer: Answer) -> usize {
+fn counted_as(case: &Case, answer: Answer, missing: bool) -> usize {
     match case {
+        _ if missing => YES_MISSING,
         Case::WriteConfig { cfg, .. } if answer.number == 1 && cfg.len() <= MOST_BYTES => LONG_RESULT,
         _ => answer.number as usize,
     }
@@ -33,6 +40,7 @@ fn can(call: usize, counted: usize) -> bool {
     match counted {
         0 => true,
         LONG_RESULT => CALLS[call] == "write_config",
+        YES_MISSING => MEET_MISSING.contains(&CALLS[call]),
         number => POSSIBLE[call].contains(&(number as u32)),
     }
 }
@@ -42,13 +50,15 @@ fn name(counted: usize) -> String {
     match counted {
         0 => String::from("yes"),
         LONG_RESULT => String::from("no 1 result"),
+        YES_MISSING => String::from("yes missing"),
         number => format!("no {number}"),
     }
 }
 
 impl Tally {
-    pub fn count(&mut self, family: Family, case: &Case, answer: Answer) {
-        self.0[part(family)][case.call()][counted_as(case, answer)] += 1;
+    /// Counts an answer; whether it is a "yes" to a row or a file with a missing sample is told beside it.
+    pub fn count(&mut self, family: Family, case: &Case, answer: Answer, missing: bool) {
+        self.0[part(family)][case.call()][counted_as(case, answer, missing)] += 1;
     }
 
     /// Adds what another thread counted.
@@ -60,16 +70,16 @@ impl Tally {
     }
 
     /// Answers that a call can give and that no case got.
-    pub fn missing(&self) -> Vec<String> {
-        let mut missing = Vec::new();
+    pub fn never_given(&self) -> Vec<String> {
+        let mut list = Vec::new();
         for (call, call_name) in CALLS.iter().enumerate() {
             for counted in (0..COUNTED).filter(|&counted| can(call, counted)) {
                 if self.0.iter().all(|part| part[call][counted] == 0) {
-                    missing.push(format!("{call_name} never answered {}", name(counted)));
+                    list.push(format!("{call_name} never answered {}", name(counted)));
                 }
             }
         }
-        missing
+        list
     }
 
     /// A table: a line for each answer, a column for each call.

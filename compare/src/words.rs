@@ -6,6 +6,12 @@ use std::str::FromStr;
 /// The word for no numbers at all.
 const NONE: &str = "none";
 
+/// The number in the place of a missing sample: the lowest of 64 bits, which is spelled x.
+pub const MISSING: i64 = i64::MIN;
+
+/// How it is spelled.
+const X: &str = "x";
+
 /// Bytes that a file of cases gives a name to.
 pub type Names<'a> = HashMap<&'a str, Vec<u8>>;
 
@@ -22,7 +28,8 @@ pub fn listed(numbers: &[i64]) -> String {
     if numbers.is_empty() {
         return String::from(NONE);
     }
-    let words: Vec<String> = numbers.iter().map(i64::to_string).collect();
+    let word = |&number: &i64| if number == MISSING { String::from(X) } else { number.to_string() };
+    let words: Vec<String> = numbers.iter().map(word).collect();
     words.join(",")
 }
 
@@ -60,13 +67,14 @@ fn repeated(word: &str) -> Option<(&str, usize)> {
     }
 }
 
-/// The numbers of a word, as `0,-3,0` or `1*256`.
+/// The numbers of a word, as `0,-3,0`, `0,x,1` or `1*256`.
 fn numbers(word: &str) -> Option<Vec<i64>> {
     if word == NONE {
         return Some(Vec::new());
     }
     let (word, times) = repeated(word)?;
-    let numbers: Option<Vec<i64>> = word.split(',').map(|number| number.parse().ok()).collect();
+    let number = |number: &str| if number == X { Some(MISSING) } else { number.parse().ok() };
+    let numbers: Option<Vec<i64>> = word.split(',').map(number).collect();
     Some(numbers?.repeat(times))
 }
 

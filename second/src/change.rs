@@ -1,6 +1,6 @@
 //! The change of a data file from one kind to another.
 
-use crate::data::{misfit, put_row, walk, Kind, Layout, END_MARK};
+use crate::data::{put_row, walk, Kind, Layout, END_MARK};
 use crate::{no, yes, Answer};
 
 /// A change that nothing but room can refuse: the layouts of both files and the length of the new one.
@@ -21,13 +21,13 @@ fn plan(a: u32, d: u32, rows: u32, kind: u32, data: &[u8], new_kind: u32) -> Res
         if failed.is_some() {
             return;
         }
-        if let Some(field) = misfit(&new, row) {
+        if let Some(field) = row.misfit(new.kind) {
             failed = Some(no(16, n, field));
             return;
         }
         if new.kind == Kind::Ascii {
             bytes.clear();
-            put_row(&new, n, row, &mut bytes);
+            put_row(new.kind, n, row, &mut bytes);
             length += bytes.len();
         } else {
             length += new.row_size();
@@ -68,7 +68,7 @@ pub fn change(a: u32, d: u32, rows: u32, kind: u32, data: &[u8], new_kind: u32, 
     let mut bytes = Vec::new();
     let walked = walk(&plan.old, data, |n, row| {
         bytes.clear();
-        put_row(&plan.new, n, row, &mut bytes);
+        put_row(plan.new.kind, n, row, &mut bytes);
         out[at..at + bytes.len()].copy_from_slice(&bytes);
         at += bytes.len();
     });

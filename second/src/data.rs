@@ -1,8 +1,8 @@
 //! Data rows of the three kinds: checked, shown and written.
-//! In memory a row is its time, A samples and D statuses; place 1 of a row is field 2.
 
 use crate::numbers;
 use crate::{no, put, yes, Answer};
+use std::fmt::{self, Display, Formatter};
 
 /// The most analog channels.
 pub const MOST_A: i64 = 96;
@@ -16,8 +16,8 @@ pub const MOST_ROWS: i64 = 1_000_000;
 /// The most bytes of a text row before its line end.
 const MOST_TEXT: usize = 1_880;
 
-/// The highest timestamp, any 32-bit number.
-const HIGHEST_TIME: i64 = 4_294_967_295;
+/// The place of a missing sample, where a row is shown or given as numbers of 64 bits.
+pub const NONE: i64 = i64::MIN;
 
 /// The mark at the end of a text file.
 pub const END_MARK: [u8; 3] = [0x1A, 0x0D, 0x0A];
@@ -67,12 +67,106 @@ impl Kind {
         }
     }
 
-    /// Whether a sample lies from the lowest to the highest of the kind; ASCII has the range of binary32.
-    fn holds(self, sample: i64) -> bool {
+    /// Whether a number lies from the lowest sample to the highest of the kind; ASCII has the range of binary32.
+    fn holds(self, number: i64) -> bool {
         match self {
-            Kind::Binary => (-32_768..=32_767).contains(&sample),
-            Kind::Ascii | Kind::Binary32 => (-2_147_483_648..=2_147_483_647).contains(&sample),
+            Kind::Binary => (-32_767..=32_767).contains(&number),
+            Kind::Ascii | Kind::Binary32 => (-2_147_483_647..=2_147_483_647).contains(&number),
         }
+    }
+}
+
+/// What a row has for an analog channel: a number, or nothing.
+#[derive(Debug, Clone, Copy, PartialEq, Eq)]
+pub enum Sample {
+    Is(i32),
+    Missing,
+}
+
+impl Sample {
+    /// A number that is a sample of the kind.
+    fn of_number(number: i64, kind: Kind) -> Option<Sample> {
+        kind.holds(number).then_some(Sample::Is(number as i32))
+    }
+
+    /// What a place says that is given for a sample of the kind.
+    fn of_place(place: i64, kind: Kind) -> Option<Sample> {
+        if place == NONE {
+            return Some(Sample::Missing);
+        }
+        Sample::of_number(place, kind)
+    }
+
+    /// The place that shows it.
+    fn place(self) -> i64 {
+        match self {
+            Sample::Is(number) => i64::from(number),
+            Sample::Missing => NONE,
+        }
+    }
+
+    /// Whether it can be written in the kind: a missing sample in every kind.
+    fn fits(self, kind: Kind) -> bool {
+        match self {
+            Sample::Is(number) => kind.holds(i64::from(number)),
+            Sample::Missing => true,
+        }
+    }
+}
+
+/// A number as it stands, a missing sample as x.
+impl Display for Sample {
+    fn fmt(&self, f: &mut Formatter) -> fmt::Result {
+        match self {
+            Sample::Is(number) => number.fmt(f),
+            Sample::Missing => f.write_str("x"),
+        }
+    }
+}
+
+/// In memory a row is its time, A samples and D statuses.
+pub struct Row {
+    pub time: u32,
+    pub samples: Vec<Sample>,
+    pub statuses: Vec<bool>,
+}
+
+impl Row {
+    /// A row with a place for each channel.
+    fn new(layout: &Layout) -> Row {
+        Row { time: 0, samples: vec![Sample::Is(0); layout.a], statuses: vec![false; layout.d] }
+    }
+
+    /// The row that is given as places, or the field of the first that does not fit.
+    fn of_places(layout: &Layout, places: &[i64]) -> Result<Row, u32> {
+        let mut row = Row::new(layout);
+        row.time = u32::try_from(places[0]).or(Err(2u32))?;
+        let (samples, statuses) = places[1..layout.places()].split_at(layout.a);
+        for (field, (sample, &place)) in (3u32..).zip(row.samples.iter_mut().zip(samples)) {
+            *sample = Sample::of_place(place, layout.kind).ok_or(field)?;
+        }
+        for (field, (status, &place)) in (3 + layout.a as u32..).zip(row.statuses.iter_mut().zip(statuses)) {
+            *status = match place {
+                0 => false,
+                1 => true,
+                _ => return Err(field),
+            };
+        }
+        Ok(row)
+    }
+
+    /// The places that show it: time, samples, statuses.
+    fn places(&self) -> Vec<i64> {
+        let mut places = vec![i64::from(self.time)];
+        places.extend(self.samples.iter().map(|sample| sample.place()));
+        places.extend(self.statuses.iter().map(|&status| i64::from(status)));
+        places
+    }
+
+    /// The field of the first sample that does not fit a kind.
+    pub fn misfit(&self, kind: Kind) -> Option<u32> {
+        let place = self.samples.iter().position(|sample| !sample.fits(kind))?;
+        Some(3 + place as u32)
     }
 }
 
@@ -123,8 +217,8 @@ impl Layout {
 }
 
 /// The whole file in order, `each` called with every row after its own checks; the first refusal met is given.
-pub fn walk(layout: &Layout, data: &[u8], mut each: impl FnMut(u32, &[i64])) -> Result<(), Answer> {
-    let mut row = vec![0; layout.places()];
+pub fn walk(layout: &Layout, data: &[u8], mut each: impl FnMut(u32, &Row)) -> Result<(), Answer> {
+    let mut row = Row::new(layout);
     if layout.kind == Kind::Ascii {
         let mut start = 0;
         for n in 1..=layout.rows {
@@ -156,25 +250,30 @@ fn four(bytes: &[u8]) -> u32 {
     u32::from_le_bytes([bytes[0], bytes[1], bytes[2], bytes[3]])
 }
 
-/// Row number and timestamp, A samples in two's complement, then the status words: 12, then 13.
-fn binary_row(layout: &Layout, bytes: &[u8], n: u32, row: &mut [i64]) -> Result<(), Answer> {
+/// A sample of a binary kind, in two's complement: the lowest pattern, 8000 or 80000000 hex, is kept for a missing one.
+fn binary_sample(bytes: &[u8]) -> Sample {
+    match *bytes {
+        [0x00, 0x80] | [0x00, 0x00, 0x00, 0x80] => Sample::Missing,
+        [low, high] => Sample::Is(i32::from(i16::from_le_bytes([low, high]))),
+        _ => Sample::Is(four(bytes) as i32),
+    }
+}
+
+/// Row number and timestamp, A samples, then the status words: 12, then 13.
+fn binary_row(layout: &Layout, bytes: &[u8], n: u32, row: &mut Row) -> Result<(), Answer> {
     if four(bytes) != n {
         return Err(no(12, n, 1));
     }
-    row[0] = i64::from(four(&bytes[4..]));
-    let (samples, statuses) = row[1..].split_at_mut(layout.a);
+    row.time = four(&bytes[4..]);
     let width = layout.kind.width();
-    let (sample_bytes, words) = bytes[8..].split_at(layout.a * width);
-    for (sample, bytes) in samples.iter_mut().zip(sample_bytes.chunks_exact(width)) {
-        *sample = match *bytes {
-            [low, high] => i64::from(i16::from_le_bytes([low, high])),
-            _ => i64::from(four(bytes) as i32),
-        };
+    let (samples, words) = bytes[8..].split_at(layout.a * width);
+    for (sample, bytes) in row.samples.iter_mut().zip(samples.chunks_exact(width)) {
+        *sample = binary_sample(bytes);
     }
-    for (statuses, bytes) in statuses.chunks_mut(16).zip(words.chunks_exact(2)) {
+    for (statuses, bytes) in row.statuses.chunks_mut(16).zip(words.chunks_exact(2)) {
         let mut word = u16::from_le_bytes([bytes[0], bytes[1]]);
         for status in statuses.iter_mut() {
-            *status = i64::from(word & 1);
+            *status = word & 1 == 1;
             word >>= 1;
         }
         if word != 0 {
@@ -198,7 +297,7 @@ fn text_end(data: &[u8], start: usize, n: u32) -> Result<usize, Answer> {
 }
 
 /// A text row from byte `start`: scanned, its fields counted, then fields from the left; the byte after it.
-fn text_row(layout: &Layout, data: &[u8], start: usize, n: u32, row: &mut [i64]) -> Result<usize, Answer> {
+fn text_row(layout: &Layout, data: &[u8], start: usize, n: u32, row: &mut Row) -> Result<usize, Answer> {
     let end = text_end(data, start, n)?;
     let line = &data[start..end];
     let commas = line.iter().filter(|&&byte| byte == b',').count();
@@ -211,66 +310,76 @@ fn text_row(layout: &Layout, data: &[u8], start: usize, n: u32, row: &mut [i64])
         return Err(no(12, n, 1));
     }
     for (place, bytes) in fields.enumerate() {
-        row[place] = text_place(layout, place, bytes).ok_or(no(14, n, place as u32 + 2))?;
+        text_place(layout, place, bytes, row).ok_or(no(14, n, place as u32 + 2))?;
     }
     Ok(end + 2)
 }
 
-/// One field after the number: timestamp, sample, or status of one character, 0 or 1.
-fn text_place(layout: &Layout, place: usize, bytes: &[u8]) -> Option<i64> {
+/// One field after the number, put into the row: timestamp, sample, or status of one character, 0 or 1.
+fn text_place(layout: &Layout, place: usize, bytes: &[u8], row: &mut Row) -> Option<()> {
     if place == 0 {
-        numbers::count(bytes, 13).filter(|&time| time <= HIGHEST_TIME)
+        row.time = u32::try_from(numbers::count(bytes, 13)?).ok()?;
     } else if place <= layout.a {
-        numbers::sample(bytes, 13).filter(|&sample| Kind::Ascii.holds(sample))
+        row.samples[place - 1] = text_sample(bytes)?;
     } else {
-        match bytes {
-            b"0" => Some(0),
-            b"1" => Some(1),
-            _ => None,
+        row.statuses[place - 1 - layout.a] = match bytes {
+            b"0" => false,
+            b"1" => true,
+            _ => return None,
+        };
+    }
+    Some(())
+}
+
+/// A sample of a text: an empty field is a missing one, and one of spaces alone is none.
+fn text_sample(bytes: &[u8]) -> Option<Sample> {
+    if bytes.is_empty() {
+        return Some(Sample::Missing);
+    }
+    Sample::of_number(numbers::sample(bytes, 13)?, Kind::Ascii)
+}
+
+/// Adds a row that fits the kind to `bytes`.
+pub fn put_row(kind: Kind, n: u32, row: &Row, bytes: &mut Vec<u8>) {
+    match kind {
+        Kind::Ascii => put_text(n, row, bytes),
+        Kind::Binary | Kind::Binary32 => put_binary(kind.width(), n, row, bytes),
+    }
+}
+
+/// Number, time, samples of so many bytes, status words. A missing sample is the lowest pattern: its high byte is 80 hex, the others are 0.
+fn put_binary(width: usize, n: u32, row: &Row, bytes: &mut Vec<u8>) {
+    bytes.extend_from_slice(&n.to_le_bytes());
+    bytes.extend_from_slice(&row.time.to_le_bytes());
+    for sample in &row.samples {
+        match sample {
+            Sample::Is(number) => bytes.extend_from_slice(&number.to_le_bytes()[..width]),
+            Sample::Missing => bytes.extend_from_slice(&[0x00, 0x00, 0x00, 0x80][4 - width..]),
         }
     }
-}
-
-/// The first field from the left whose number does not fit the kind.
-pub fn misfit(layout: &Layout, row: &[i64]) -> Option<u32> {
-    let (time, rest) = (row[0], &row[1..layout.places()]);
-    if !(0..=HIGHEST_TIME).contains(&time) {
-        return Some(2);
-    }
-    let (samples, statuses) = rest.split_at(layout.a);
-    if let Some(place) = samples.iter().position(|&sample| !layout.kind.holds(sample)) {
-        return Some(3 + place as u32);
-    }
-    let place = statuses.iter().position(|&status| status != 0 && status != 1)?;
-    Some(3 + (layout.a + place) as u32)
-}
-
-/// Adds a row that fits, in its layout's kind, to `bytes`.
-pub fn put_row(layout: &Layout, n: u32, row: &[i64], bytes: &mut Vec<u8>) {
-    if layout.kind == Kind::Ascii {
-        return put_text(layout, n, row, bytes);
-    }
-    bytes.extend_from_slice(&n.to_le_bytes());
-    bytes.extend_from_slice(&(row[0] as u32).to_le_bytes());
-    let (samples, statuses) = row[1..layout.places()].split_at(layout.a);
-    for sample in samples {
-        bytes.extend_from_slice(&sample.to_le_bytes()[..layout.kind.width()]);
-    }
-    for statuses in statuses.chunks(16) {
+    for statuses in row.statuses.chunks(16) {
         let mut word = 0u16;
         for (bit, &status) in statuses.iter().enumerate() {
-            word |= (status as u16) << bit;
+            word |= u16::from(status) << bit;
         }
         bytes.extend_from_slice(&word.to_le_bytes());
     }
 }
 
-/// The plain written form: no spaces, no plus, no needless zeros, zero as 0; the row ends with CR LF.
-fn put_text(layout: &Layout, n: u32, row: &[i64], bytes: &mut Vec<u8>) {
+/// The plain written form: no spaces, no plus, no needless zeros, zero as 0, nothing for a missing sample; the row ends with CR LF.
+fn put_text(n: u32, row: &Row, bytes: &mut Vec<u8>) {
     put_number(i64::from(n), bytes);
-    for &place in &row[..layout.places()] {
+    bytes.push(b',');
+    put_number(i64::from(row.time), bytes);
+    for sample in &row.samples {
         bytes.push(b',');
-        put_number(place, bytes);
+        match sample {
+            Sample::Is(number) => put_number(i64::from(*number), bytes),
+            Sample::Missing => (),
+        }
+    }
+    for &status in &row.statuses {
+        bytes.extend_from_slice(if status { b",1" } else { b",0" });
     }
     bytes.extend_from_slice(&[0x0D, 0x0A]);
 }
@@ -320,7 +429,7 @@ fn find_row(a: u32, d: u32, rows: u32, kind: u32, data: &[u8], n: u32) -> Result
     let mut found = Vec::new();
     walk(&layout, data, |number, row| {
         if number == n {
-            found.extend_from_slice(row);
+            found = row.places();
         }
     })?;
     Ok(found)
@@ -338,10 +447,8 @@ fn row_bytes(a: u32, d: u32, rows: u32, kind: u32, n: u32, row: &[i64]) -> Resul
         return Err(no(10, 0, 0));
     }
     layout.has_row(n)?;
-    if let Some(field) = misfit(&layout, row) {
-        return Err(no(16, n, field));
-    }
+    let row = Row::of_places(&layout, row).map_err(|field| no(16, n, field))?;
     let mut bytes = Vec::new();
-    put_row(&layout, n, row, &mut bytes);
+    put_row(layout.kind, n, &row, &mut bytes);
     Ok(bytes)
 }

@@ -12,7 +12,7 @@ mod write_config;
 
 pub use change::{change, length};
 pub use config::config;
-pub use data::{check, row, write_row};
+pub use data::{check, row, write_row, NONE};
 pub use write_config::write_config;
 
 /// An answer: number 0 is "yes"; a "no" has its number and place, and length zero.
@@ -61,11 +61,9 @@ pub fn list(cfg: &[u8], dat: &[u8]) -> String {
     let layout = found.layout;
     let mut lines = format!("A {} D {} rows {} {}\n", layout.a, layout.d, layout.rows, layout.kind.word());
     let walked = data::walk(&layout, dat, |n, row| {
-        lines.push_str(&n.to_string());
-        for place in row {
-            lines.push(' ');
-            lines.push_str(&place.to_string());
-        }
+        lines.push_str(&format!("{n} {}", row.time));
+        row.samples.iter().for_each(|sample| lines.push_str(&format!(" {sample}")));
+        row.statuses.iter().for_each(|&status| lines.push_str(if status { " 1" } else { " 0" }));
         lines.push('\n');
     });
     match walked {

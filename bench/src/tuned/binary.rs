@@ -1,18 +1,32 @@
 //! Rows of the two binary kinds; W is the sample width, 2 or 4.
 
-use super::{fits, no, word_of, Answer, Layout};
+use super::{fits, no, place_of, word_of, Answer, Layout, MISSING, NONE};
 
 pub fn four(bytes: &[u8]) -> u32 {
     u32::from_le_bytes([bytes[0], bytes[1], bytes[2], bytes[3]])
 }
 
-/// A sample of W bytes in two's complement.
+/// A sample of W bytes in two's complement; the lowest of either width is a missing one. Its bytes are loaded at once, so
+/// that the compiler reads many samples at a time.
+#[inline(always)]
 pub fn sample<const W: usize>(bytes: &[u8]) -> i32 {
-    if W == 2 {
-        i32::from(i16::from_le_bytes([bytes[0], bytes[1]]))
-    } else {
-        four(bytes) as i32
+    if W == 4 {
+        return i32::from_le_bytes(bytes.try_into().unwrap_or_default());
     }
+    match i16::from_le_bytes(bytes.try_into().unwrap_or_default()) {
+        i16::MIN => MISSING,
+        sample => i32::from(sample),
+    }
+}
+
+/// Writes a sample that fits as W bytes. A missing one, which lies below all others, becomes the lowest of the width.
+#[inline(always)]
+pub fn put_sample<const W: usize>(sample: i32, bytes: &mut [u8]) {
+    if W == 4 {
+        return bytes.copy_from_slice(&sample.to_le_bytes());
+    }
+    let narrow = sample.clamp(i16::MIN.into(), i16::MAX.into()) as i16;
+    bytes.copy_from_slice(&narrow.to_le_bytes());
 }
 
 /// Bytes of a row: number, time, samples, status words.
@@ -79,7 +93,7 @@ pub fn show<const W: usize>(layout: &Layout, data: &[u8], shown: &mut [i64]) {
     let (samples, statuses) = shown[1..].split_at_mut(layout.a);
     let (sample_bytes, words) = data[8..].split_at(layout.a * W);
     for (place, bytes) in samples.iter_mut().zip(sample_bytes.chunks_exact(W)) {
-        *place = i64::from(sample::<W>(bytes));
+        *place = place_of(sample::<W>(bytes));
     }
     for (places, bytes) in statuses.chunks_mut(16).zip(words.chunks_exact(2)) {
         let word = u16::from_le_bytes([bytes[0], bytes[1]]);
@@ -89,9 +103,19 @@ pub fn show<const W: usize>(layout: &Layout, data: &[u8], shown: &mut [i64]) {
     }
 }
 
+/// Writes the missing samples of a row over the zeros that stand there.
+#[cold]
+fn put_missing<const W: usize>(samples: &[i64], bytes: &mut [u8]) {
+    for (bytes, &sample) in bytes.chunks_exact_mut(W).zip(samples) {
+        if sample == NONE {
+            bytes[W - 1] = 0x80;
+        }
+    }
+}
+
 /// Writes a row: 16, 17.
 pub fn put_row<const W: usize>(layout: &Layout, n: u32, row: &[i64], out: &mut [u8]) -> Result<usize, Answer> {
-    fits(layout, n, row, 8 * W as u32)?;
+    let missing = fits(layout, n, row, 8 * W as u32)?;
     let size = row_size::<W>(layout);
     let Some(out) = out.get_mut(..size) else { return Err(no(17, 0, 0)) };
     let (head, rest) = out.split_at_mut(8);
@@ -101,6 +125,9 @@ pub fn put_row<const W: usize>(layout: &Layout, n: u32, row: &[i64], out: &mut [
     let (sample_bytes, words) = rest.split_at_mut(layout.a * W);
     for (bytes, sample) in sample_bytes.chunks_exact_mut(W).zip(samples) {
         bytes.copy_from_slice(&sample.to_le_bytes()[..W]);
+    }
+    if missing {
+        put_missing::<W>(samples, sample_bytes);
     }
     for (bytes, statuses) in words.chunks_exact_mut(2).zip(statuses.chunks(16)) {
         bytes.copy_from_slice(&word_of(statuses).to_le_bytes());

@@ -4,7 +4,7 @@ use super::binary::{self, four, row_size};
 use super::numbers::{sample_length, POWERS};
 use super::plain::{bare_length, Pen, END_MARK};
 use super::text::{self, Fields, Ignored};
-use super::{answer, no, Answer, Kind, Layout};
+use super::{answer, no, Answer, Kind, Layout, MISSING};
 
 /// A change that only room can refuse. A text file whose rows are as long as their plain form is plain already.
 struct Plan {
@@ -86,7 +86,12 @@ fn compared_length<const W: usize>(sample: i32) -> u32 {
     let distance = sample.unsigned_abs();
     let powers: &[u32] = if W == 2 { &POWERS[1..5] } else { &POWERS[1..] };
     let more: u32 = powers.iter().map(|&power| u32::from(distance >= power)).sum();
-    1 + u32::from(sample < 0) + more
+    let length = 1 + u32::from(sample < 0) + more;
+    if sample == MISSING {
+        0
+    } else {
+        length
+    }
 }
 
 fn plan_plain<const W: usize>(layout: &Layout, data: &[u8]) -> Result<Plan, Answer> {
@@ -99,7 +104,14 @@ fn plan_plain<const W: usize>(layout: &Layout, data: &[u8]) -> Result<Plan, Answ
     Ok(Plan { length, already_plain: false })
 }
 
-/// Notes the first sample outside 16 bits.
+/// Not zero for the distance from zero of a number that does not fit 16 bits, which has more than 15. That of a missing
+/// sample is the highest bit alone, which is left out.
+#[inline(always)]
+fn too_wide(distance: u32) -> u32 {
+    distance << 1 >> 16
+}
+
+/// Notes the first number that does not fit 16 bits.
 struct Narrow {
     n: u32,
     field: u32,
@@ -115,7 +127,7 @@ impl Fields for Narrow {
     #[inline(always)]
     fn sample(&mut self, sample: i32) {
         self.field += 1;
-        if i16::try_from(sample).is_err() && self.misfit.is_none() {
+        if too_wide(sample.unsigned_abs()) != 0 && self.misfit.is_none() {
             self.misfit = Some(no(16, self.n, self.field));
         }
     }
@@ -129,11 +141,11 @@ fn check_narrow_text(layout: &Layout, data: &[u8]) -> Result<(), Answer> {
 
 fn check_narrow(layout: &Layout, data: &[u8]) -> Result<(), Answer> {
     let mut misfit = None;
-    let outside = |bytes: &[u8]| (binary::sample::<4>(bytes).wrapping_add(1 << 15)) as u32 >> 16;
+    let distance = |bytes: &[u8]| binary::sample::<4>(bytes).unsigned_abs();
     binary::walk::<4>(layout, data, |n, row| {
         let samples = row[8..8 + layout.a * 4].chunks_exact(4);
-        if samples.clone().fold(0, |bad, bytes| bad | outside(bytes)) != 0 && misfit.is_none() {
-            let place = samples.clone().position(|bytes| outside(bytes) != 0).unwrap_or(0);
+        if too_wide(samples.clone().fold(0, |all, bytes| all | distance(bytes))) != 0 && misfit.is_none() {
+            let place = samples.clone().position(|bytes| too_wide(distance(bytes)) != 0).unwrap_or(0);
             misfit = Some(no(16, n, place as u32 + 3));
         }
     })?;
@@ -168,7 +180,7 @@ fn write_width<const W: usize, const V: usize>(layout: &Layout, data: &[u8], out
         let (old_samples, old_words) = old[8..].split_at(layout.a * W);
         let (new_samples, new_words) = new[8..].split_at_mut(layout.a * V);
         for (new, old) in new_samples.chunks_exact_mut(V).zip(old_samples.chunks_exact(W)) {
-            new.copy_from_slice(&binary::sample::<W>(old).to_le_bytes()[..V]);
+            binary::put_sample::<V>(binary::sample::<W>(old), new);
         }
         new_words.copy_from_slice(old_words);
     }
@@ -255,7 +267,9 @@ impl<const W: usize> Fields for Words<'_, W> {
     }
     #[inline(always)]
     fn sample(&mut self, sample: i32) {
-        self.put(sample.to_le_bytes(), W);
+        let mut bytes = [0; W];
+        binary::put_sample::<W>(sample, &mut bytes);
+        self.put(bytes, W);
     }
     #[inline(always)]
     fn statuses(&mut self, count: usize, bits: u16) {

@@ -1,5 +1,7 @@
 //! Decimal numbers: how long their plain form is, and writing it.
 
+use super::MISSING;
+
 /// Two digits at a time.
 const PAIRS: [u8; 200] = pairs();
 
@@ -24,10 +26,19 @@ pub fn digits(value: u32) -> usize {
     near + usize::from(value >= POWERS[near])
 }
 
-/// How long the plain form of a sample is, its minus included.
+/// How long the plain form of a number is, its minus included.
+#[inline(always)]
+pub fn number_length(number: i32) -> usize {
+    usize::from(number < 0) + digits(number.unsigned_abs())
+}
+
+/// How long the plain form of a sample is; nothing is written for a missing one.
 #[inline(always)]
 pub fn sample_length(sample: i32) -> usize {
-    usize::from(sample < 0) + digits(sample.unsigned_abs())
+    match sample {
+        MISSING => 0,
+        number => number_length(number),
+    }
 }
 
 /// Writes the plain form so that it fills `place`, from its last digit.

@@ -1,7 +1,7 @@
 //! Text written in its plain form.
 
-use super::numbers::{digits, put_digits, sample_length};
-use super::{fits, no, word_of, Answer, Layout};
+use super::numbers::{digits, number_length, put_digits, sample_length};
+use super::{fits, given, no, word_of, Answer, Layout, MISSING};
 
 /// The longest plain row with its line end: number, time, 96 samples, 256 statuses.
 const LONGEST: usize = 7 + 11 + 96 * 12 + 256 * 2 + 2;
@@ -52,7 +52,10 @@ impl Pen<'_> {
 
     #[inline(always)]
     pub fn sample(&mut self, sample: i32) {
-        let place = self.take(1 + sample_length(sample));
+        if sample == MISSING {
+            return self.bytes(b",");
+        }
+        let place = self.take(1 + number_length(sample));
         place[0] = b',';
         // A minus here is written over by the digits of a sample that has none.
         place[1] = b'-';
@@ -90,7 +93,7 @@ pub fn put_row(layout: &Layout, n: u32, row: &[i64], out: &mut [u8]) -> Result<u
     fits(layout, n, row, 32)?;
     let (samples, statuses) = row[1..].split_at(layout.a);
     if out.len() < LONGEST {
-        let lengths: usize = samples.iter().map(|&sample| sample_length(sample as i32)).sum();
+        let lengths: usize = samples.iter().map(|&sample| sample_length(given(sample))).sum();
         if out.len() < bare_length(layout, n, row[0] as u32) + lengths {
             return Err(no(17, 0, 0));
         }
@@ -99,7 +102,7 @@ pub fn put_row(layout: &Layout, n: u32, row: &[i64], out: &mut [u8]) -> Result<u
     pen.number(n);
     pen.time(row[0] as u32);
     for &sample in samples {
-        pen.sample(sample as i32);
+        pen.sample(given(sample));
     }
     for statuses in statuses.chunks(16) {
         pen.statuses(statuses.len(), word_of(statuses));

@@ -1,7 +1,7 @@
 //! Text rows. A row is read field by field in one go; only a row that fails is looked through again for its refusal.
 
 use super::plain::END_MARK;
-use super::{no, Answer, Layout};
+use super::{no, place_of, Answer, Layout, MISSING};
 
 /// What is done with the fields of a row, from the left. Statuses come up to four at a time, bit 0 first.
 pub trait Fields {
@@ -16,7 +16,7 @@ pub struct Ignored;
 
 impl Fields for Ignored {}
 
-/// A run of digits from `at` and where it ends. More than 13 digits are refused by their length, so the value may wrap.
+/// A run of digits, or none, and where it ends. More than 13 digits are refused by their length, so the value may wrap.
 #[inline(always)]
 fn run(data: &[u8], start: usize) -> Option<(u64, usize)> {
     let mut value = 0u64;
@@ -28,9 +28,6 @@ fn run(data: &[u8], start: usize) -> Option<(u64, usize)> {
         }
         value = value.wrapping_mul(10).wrapping_add(u64::from(digit));
         at += 1;
-    }
-    if at == start {
-        return None;
     }
     Some((value, at))
 }
@@ -47,22 +44,25 @@ fn after_spaces(data: &[u8], mut at: usize) -> Option<usize> {
 /// A count of at most `most` characters.
 #[inline(always)]
 fn count(data: &[u8], start: usize, most: usize) -> Option<(u64, usize)> {
-    let (value, end) = run(data, after_spaces(data, start)?)?;
-    if end - start > most {
+    let first = after_spaces(data, start)?;
+    let (value, end) = run(data, first)?;
+    if end == first || end - start > most {
         return None;
     }
     Some((value, end))
 }
 
-/// A sample of at most 13 characters within 32 bits.
+/// A sample of at most 13 characters within 32 bits. Where neither a space nor a sign nor a digit stands it is missing:
+/// what does stand there has to end the field, which is tested next.
 #[inline(always)]
 fn sample(data: &[u8], start: usize) -> Option<(i32, usize)> {
     let at = after_spaces(data, start)?;
     let sign = data[at];
     let minus = sign == b'-';
-    let (distance, end) = run(data, at + usize::from(minus || sign == b'+'))?;
-    if end - start > 13 || distance > (1 << 31) - u64::from(!minus) {
-        return None;
+    let first = at + usize::from(minus || sign == b'+');
+    let (distance, end) = run(data, first)?;
+    if end == first || end - start > 13 || distance > i32::MAX as u64 {
+        return (end == start).then_some((MISSING, start));
     }
     let value = distance as u32 as i32;
     Some((if minus { value.wrapping_neg() } else { value }, end))
@@ -182,7 +182,7 @@ impl Fields for Shown<'_> {
         self.put(i64::from(time));
     }
     fn sample(&mut self, sample: i32) {
-        self.put(i64::from(sample));
+        self.put(place_of(sample));
     }
     fn statuses(&mut self, count: usize, bits: u16) {
         for bit in 0..count {

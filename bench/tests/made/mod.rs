@@ -6,9 +6,12 @@ pub use cfg::{configuration, configuration_of_size};
 
 use dice::Dice;
 
+/// A missing sample in the rows that a file is made from.
+pub const NONE: i64 = i64::MIN;
+
 /// A number near some edge of what a field may hold.
 pub fn odd_number(dice: &mut Dice) -> i64 {
-    let edge = dice.pick(&[0, 1 << 15, 1 << 16, 1 << 31, 1 << 32, i64::MAX, 9_999, 100_000]);
+    let edge = dice.pick(&[0, 1 << 15, 1 << 16, 1 << 31, 1 << 32, i64::MAX, NONE, 9_999, 100_000]);
     let near = edge.wrapping_add(dice.below(5) as i64 - 2);
     if dice.once_in(2) {
         near
@@ -34,7 +37,8 @@ impl Recording {
         let rows = 1 + dice.below(5) as u32;
         let kind = dice.below(3) as u32;
         let wide = kind != 1 && dice.once_in(3);
-        let values: Vec<Vec<i64>> = (0..rows).map(|_| row(dice, a, d, wide)).collect();
+        let missing = dice.pick(&[0, 0, 1, 2, 5]);
+        let values: Vec<Vec<i64>> = (0..rows).map(|_| row(dice, a, d, wide, missing)).collect();
         let mut data = match kind {
             0 => text_file(dice, &values, a as usize),
             _ => binary_file(&values, a as usize, 2 * kind as usize),
@@ -62,6 +66,9 @@ impl Recording {
     }
 }
 
+/// Samples that do not fit 16 bits.
+const WIDE: [i64; 7] = [-2_147_483_647, 2_147_483_647, 32_768, -32_768, -32_769, 999_999_999, 1_000_000_000];
+
 fn channels(dice: &mut Dice) -> (u32, u32) {
     let known = [(1, 1), (8, 16), (0, 1), (1, 0), (0, 17), (2, 15), (3, 32), (0, 256), (5, 4), (2, 5), (6, 6)];
     match dice.below(20) {
@@ -72,17 +79,18 @@ fn channels(dice: &mut Dice) -> (u32, u32) {
     }
 }
 
-/// A time, samples and statuses.
-fn row(dice: &mut Dice, a: u32, d: u32, wide: bool) -> Vec<i64> {
+/// A time, samples and statuses; one sample of so many is missing, or none where that is 0.
+fn row(dice: &mut Dice, a: u32, d: u32, wide: bool, missing: u64) -> Vec<i64> {
     let mut row = vec![match dice.below(4) {
         0 => dice.pick(&[0, 4_294_967_295, 4_294_967_294, 999_999_999, 1_000_000_000]),
         _ => (dice.word() as u32 >> dice.below(32)) as i64,
     }];
     for _ in 0..a {
         let sample = match dice.below(6) {
-            0 => dice.pick(&[0, -1, 9, 10, -10, 99, 100, -32_768, 32_767]),
-            1 if wide => dice.pick(&[-2_147_483_648, 2_147_483_647, 32_768, -32_769, 999_999_999, 1_000_000_000]),
-            _ => (dice.word() as i16 >> dice.below(16)).into(),
+            _ if missing > 0 && dice.once_in(missing) => NONE,
+            0 => dice.pick(&[0, -1, 9, 10, -10, 99, 100, -32_767, 32_767]),
+            1 if wide => dice.pick(&WIDE),
+            _ => (dice.word() as i16 >> dice.below(16)).max(-32_767).into(),
         };
         row.push(sample);
     }
@@ -95,8 +103,9 @@ fn binary_file(values: &[Vec<i64>], a: usize, width: usize) -> Vec<u8> {
     for (n, row) in (1u32..).zip(values) {
         data.extend(n.to_le_bytes());
         data.extend(&row[0].to_le_bytes()[..4]);
-        for sample in &row[1..1 + a] {
-            data.extend(&sample.to_le_bytes()[..width]);
+        for &sample in &row[1..1 + a] {
+            let lowest = -1 << (8 * width - 1);
+            data.extend(&sample.max(lowest).to_le_bytes()[..width]);
         }
         for statuses in row[1 + a..].chunks(16) {
             let word = (0..).zip(statuses).fold(0u16, |word, (bit, &status)| word | (status as u16) << bit);
@@ -125,6 +134,7 @@ fn text_number(dice: &mut Dice, value: i64, most: usize, signed: bool) -> String
 const ODD_FIELDS: &[&str] = &[
     "2147483647",
     "2147483648",
+    "-2147483647",
     "-2147483648",
     "-2147483649",
     "+2147483648",
@@ -134,6 +144,8 @@ const ODD_FIELDS: &[&str] = &[
     "9999999999",
     "18446744073709551617",
     "32768",
+    "-32767",
+    "-32768",
     "-32769",
     "+1",
     "-0",
@@ -144,6 +156,7 @@ const ODD_FIELDS: &[&str] = &[
     "-",
     "+",
     " ",
+    "             ",
     "2",
     "00",
     "01",
@@ -168,10 +181,12 @@ enum Style {
     Longest,
 }
 
-/// One field of a text row in a style: the number in 10 characters, time and samples in 13, statuses in one.
+/// One field of a text row in a style: the number in 10 characters, time and samples in 13, statuses in one. A missing
+/// sample is an empty field in each.
 fn text_field(dice: &mut Dice, style: Style, place: usize, a: usize, value: i64) -> String {
     let most = if place == 0 { 10 } else { 13 };
     match style {
+        _ if value == NONE => String::new(),
         _ if place > 1 + a => value.to_string(),
         Style::Plain => value.to_string(),
         Style::Mixed => text_number(dice, value, most, place > 1),

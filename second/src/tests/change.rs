@@ -1,9 +1,9 @@
 use super::{no, yes, T1, T2, T3};
-use crate::{change, check, length, row, write_row, Answer};
+use crate::{change, check, length, row, write_row, Answer, NONE};
 use dice::Dice;
 
 /// The new file, its length asked first, then with exact, ample and too little room; or the refusal.
-fn changed(a: u32, d: u32, rows: u32, kind: u32, data: &[u8], new_kind: u32) -> Result<Vec<u8>, Answer> {
+pub fn changed(a: u32, d: u32, rows: u32, kind: u32, data: &[u8], new_kind: u32) -> Result<Vec<u8>, Answer> {
     let asked = length(a, d, rows, kind, data, new_kind);
     if asked.number != 0 {
         let mut out = [3; 50];
@@ -41,15 +41,15 @@ fn t1_t2_t3_change_into_each_other() {
 /// T12: sample 32,768 to binary is 16; 32,767 is not.
 #[test]
 fn t12_what_fits_binary() {
-    let fits = b"1,0,32767,-32768\r\n\x1A\r\n";
-    assert_eq!(changed(2, 0, 1, 0, fits, 1), Ok(vec![1, 0, 0, 0, 0, 0, 0, 0, 0xFF, 0x7F, 0, 0x80]));
+    let fits = b"1,0,32767,-32767\r\n\x1A\r\n";
+    assert_eq!(changed(2, 0, 1, 0, fits, 1), Ok(vec![1, 0, 0, 0, 0, 0, 0, 0, 0xFF, 0x7F, 1, 0x80]));
     assert_eq!(changed(2, 0, 1, 0, b"1,0,32768,0\r\n", 1), Err(no(16, 1, 3)));
-    assert_eq!(changed(2, 0, 1, 0, b"1,0,0,-32769\r\n", 1), Err(no(16, 1, 4)));
+    assert_eq!(changed(2, 0, 1, 0, b"1,0,0,-32768\r\n", 1), Err(no(16, 1, 4)));
     assert_eq!(changed(2, 0, 1, 0, b"1,0,32768,0\r\n", 0), Ok(b"1,0,32768,0\r\n\x1A\r\n".to_vec()));
-    let wide = changed(2, 0, 1, 0, b"1,0,32768,-2147483648\r\n", 2).unwrap();
-    assert_eq!(wide, [1, 0, 0, 0, 0, 0, 0, 0, 0, 0x80, 0, 0, 0, 0, 0, 0x80]);
+    let wide = changed(2, 0, 1, 0, b"1,0,32768,-2147483647\r\n", 2).unwrap();
+    assert_eq!(wide, [1, 0, 0, 0, 0, 0, 0, 0, 0, 0x80, 0, 0, 1, 0, 0, 0x80]);
     assert_eq!(changed(2, 0, 1, 2, &wide, 1), Err(no(16, 1, 3)));
-    assert_eq!(changed(2, 0, 1, 2, &wide, 0), Ok(b"1,0,32768,-2147483648\r\n\x1A\r\n".to_vec()));
+    assert_eq!(changed(2, 0, 1, 2, &wide, 0), Ok(b"1,0,32768,-2147483647\r\n\x1A\r\n".to_vec()));
 }
 
 /// 16, first row and field that fails.
@@ -59,6 +59,8 @@ fn the_first_row_and_field_that_fails() {
     assert_eq!(changed(2, 0, 3, 0, data, 1), Err(no(16, 2, 4)));
     let data = b"1,0,5,6\r\n2,0,-99999,99999\r\n3,0,99999,6\r\n";
     assert_eq!(changed(2, 0, 3, 0, data, 1), Err(no(16, 2, 3)));
+    let data = b"1,0,,6\r\n2,0,,99999\r\n3,0,99999,\r\n";
+    assert_eq!(changed(2, 0, 3, 0, data, 1), Err(no(16, 2, 4)));
 }
 
 /// Last of all 16: the file comes first.
@@ -120,7 +122,11 @@ fn every_row_is_kept() {
         let mut data = Vec::new();
         for n in 1..=rows {
             let mut places = vec![dice.below(1 << 31) as i64];
-            places.extend((0..a).map(|_| dice.below(1 << 16) as i64 - (1 << 15)));
+            places.extend((0..a).map(|_| match dice.below(1 << 16) as i64 - (1 << 15) {
+                -32_768 => NONE,
+                sample if sample % 5 == 0 => NONE,
+                sample => sample,
+            }));
             places.extend((0..d).map(|_| dice.below(2) as i64));
             let mut out = [0; 2000];
             let answer = write_row(a, d, rows, kind, n, &places, &mut out);

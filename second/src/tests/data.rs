@@ -1,9 +1,9 @@
 use super::{no, yes, T1, T2, T3};
-use crate::{check, row, write_row, Answer};
+use crate::{check, row, write_row, Answer, NONE};
 use dice::Dice;
 
 /// The places of row n.
-fn shown(a: u32, d: u32, rows: u32, kind: u32, data: &[u8], n: u32) -> Vec<i64> {
+pub fn shown(a: u32, d: u32, rows: u32, kind: u32, data: &[u8], n: u32) -> Vec<i64> {
     let mut places = vec![-5; 1 + (a + d) as usize + 3];
     assert_eq!(row(a, d, rows, kind, data, n, &mut places), yes(0));
     assert_eq!(places.split_off(1 + (a + d) as usize), [-5; 3]);
@@ -199,7 +199,7 @@ fn binary_numbers_and_padding() {
 #[test]
 fn status_words() {
     // D = 0: no words.
-    assert_eq!(shown(1, 0, 1, 1, &[1, 0, 0, 0, 0xFF, 0xFF, 0xFF, 0xFF, 0, 0x80], 1), [4_294_967_295, -32_768]);
+    assert_eq!(shown(1, 0, 1, 1, &[1, 0, 0, 0, 0xFF, 0xFF, 0xFF, 0xFF, 1, 0x80], 1), [4_294_967_295, -32_767]);
     // D = 16: one word, no padding.
     let full = [1, 0, 0, 0, 0, 0, 0, 0, 0xFF, 0xFF];
     assert_eq!(shown(0, 16, 1, 1, &full, 1)[1..], [1; 16]);
@@ -231,15 +231,16 @@ fn status_words() {
     }
 }
 
-/// Samples in two's complement, low byte first; the timestamp is any 32-bit number.
+/// Samples in two's complement, low byte first, the lowest pattern a missing one; the timestamp is any 32-bit number.
 #[test]
 fn binary_samples() {
     let mut data = vec![1, 0, 0, 0, 1, 2, 3, 4];
-    data.extend_from_slice(&[0xFF, 0x7F, 0x00, 0x80, 0xFF, 0xFF]);
-    assert_eq!(shown(3, 0, 1, 1, &data, 1), [0x0403_0201, 32_767, -32_768, -1]);
+    data.extend_from_slice(&[0xFF, 0x7F, 0x00, 0x80, 0x01, 0x80, 0xFF, 0xFF]);
+    assert_eq!(shown(4, 0, 1, 1, &data, 1), [0x0403_0201, 32_767, NONE, -32_767, -1]);
     let mut data = vec![1, 0, 0, 0, 1, 2, 3, 0xF4];
-    data.extend_from_slice(&[0xFF, 0xFF, 0xFF, 0x7F, 0, 0, 0, 0x80, 0xFF, 0xFF, 0xFF, 0xFF, 0, 0x80, 0, 0]);
-    assert_eq!(shown(4, 0, 1, 2, &data, 1), [0xF403_0201, 2_147_483_647, -2_147_483_648, -1, 32_768]);
+    data.extend_from_slice(&[0xFF, 0xFF, 0xFF, 0x7F, 0, 0, 0, 0x80, 1, 0, 0, 0x80]);
+    data.extend_from_slice(&[0xFF, 0xFF, 0xFF, 0xFF, 0, 0x80, 0, 0]);
+    assert_eq!(shown(5, 0, 1, 2, &data, 1), [0xF403_0201, 2_147_483_647, NONE, -2_147_483_647, -1, 32_768]);
 }
 
 /// After the last row comes nothing, or 1A hex, or 1A 0D 0A; else 11 at row rows + 1.
@@ -368,7 +369,7 @@ fn text_timestamps() {
     }
 }
 
-/// Samples (1 to 13 characters, optional sign and digits) of the range of binary32.
+/// Samples (1 to 13 characters, optional sign and digits) of the range of binary32, or an empty field.
 #[test]
 fn text_samples() {
     let good = [
@@ -377,9 +378,11 @@ fn text_samples() {
         (" -5", -5),
         ("0000000000005", 5),
         ("2147483647", 2_147_483_647),
-        ("-2147483648", -2_147_483_648),
+        ("-2147483647", -2_147_483_647),
+        ("-32768", -32_768),
         ("            5", 5),
         ("+000000000005", 5),
+        ("", NONE),
     ];
     for (sample, value) in good {
         let line = format!("1,0,{sample},1\r\n");
@@ -391,22 +394,26 @@ fn text_samples() {
         "+",
         "5.0",
         "1E2",
-        "",
         " ",
+        "             ",
         "5 ",
+        "x",
         "2147483648",
+        "-2147483648",
+        "-002147483648",
         "-2147483649",
         "9999999999999",
         "-999999999999",
         "00000000000005",
         "             5",
         "--5",
-        "99999",
     ];
-    for sample in &bad[..15] {
+    for sample in bad {
         assert_eq!(one(&format!("1,0,{sample},x")), no(14, 1, 3), "{sample}");
     }
-    assert_eq!(one(&format!("1,0,{},x", bad[15])), no(14, 1, 4));
+    for sample in ["99999", ""] {
+        assert_eq!(one(&format!("1,0,{sample},x")), no(14, 1, 4), "{sample}");
+    }
 }
 
 /// Statuses: one character, 0 or 1, no leading spaces.
@@ -472,10 +479,11 @@ fn what_fits_a_field() {
         for status in [-1, 2, i64::MIN, i64::MAX, 256, 65_536] {
             assert_eq!(fits(kind, &[0, 0, status]), no(16, 1, 4));
         }
-        let (low, high) = if kind == 1 { (-32_768, 32_767) } else { (-2_147_483_648, 2_147_483_647) };
-        assert_eq!(fits(kind, &[0, low, 0]).number, 0);
-        assert_eq!(fits(kind, &[0, high, 0]).number, 0);
-        for sample in [low - 1, high + 1, i64::MIN, i64::MAX] {
+        let high = if kind == 1 { 32_767 } else { 2_147_483_647 };
+        for sample in [-high, high, NONE] {
+            assert_eq!(fits(kind, &[0, sample, 0]).number, 0);
+        }
+        for sample in [-high - 1, -high - 2, high + 1, i64::MIN + 1, i64::MAX] {
             assert_eq!(fits(kind, &[0, sample, 0]), no(16, 1, 3));
         }
     }
@@ -487,8 +495,9 @@ fn what_fits_a_field() {
 #[test]
 fn the_plain_form() {
     let mut out = [0; 60];
-    let answer = write_row(2, 1, 1_000_000, 0, 1_000_000, &[4_294_967_295, -2_147_483_648, 0, 1], &mut out);
-    assert_eq!(&out[..answer.length as usize], b"1000000,4294967295,-2147483648,0,1\r\n");
+    let places = [4_294_967_295, -2_147_483_647, NONE, 0, 1];
+    let answer = write_row(3, 1, 1_000_000, 0, 1_000_000, &places, &mut out);
+    assert_eq!(&out[..answer.length as usize], b"1000000,4294967295,-2147483647,,0,1\r\n");
 }
 
 /// Rows written and then shown are the same rows.
@@ -505,7 +514,8 @@ fn what_is_written_is_read_again() {
             let mut places = vec![dice.below(1 << 31) as i64 * 2 + dice.below(2) as i64];
             for _ in 0..a {
                 let sample = dice.below(1 << 31) as i64 - (1 << 30);
-                places.push(if kind == 1 { sample >> 15 } else { sample });
+                let sample = if kind == 1 { sample >> 15 } else { sample };
+                places.push(if dice.once_in(5) || sample == -32_768 { NONE } else { sample });
             }
             for _ in 0..d {
                 places.push(dice.below(2) as i64);

@@ -4,6 +4,7 @@ mod change;
 mod config;
 mod data;
 mod list;
+mod missing;
 mod numbers;
 mod write_config;
 

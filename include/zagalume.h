@@ -5,6 +5,19 @@
  * A call returns its answer by value: yes, or no with a number, which says what is wrong, and the place.
  * "No" changes no lent byte. "Yes" changes only the places or bytes that it reports.
  *
+ * A sample may be missing, and is then no number. Ask before you use one; with a layout and its data file at hand:
+ *
+ *     int64_t row[ZL_MOST_ROW_PLACES];
+ *     if (zl_row_in(layout, data, data_length, n, row, ZL_MOST_ROW_PLACES).number != ZL_YES)
+ *         return;
+ *     for (uint32_t k = 0; k < layout.a; k++) {
+ *         int64_t place = row[ZL_ROW_SAMPLES + k];
+ *         if (zl_is_missing(place))
+ *             hold(k);
+ *         else
+ *             play(k, (int32_t)place);
+ *     }
+ *
  * What the caller owes, since nothing here can test it:
  *   - A pointer is valid for its whole length, and aligned for its type: readable where it is const, else writable.
  *     A length counts bytes of a uint8_t pointer and places of an int64_t pointer. Where the length is 0, nothing is
@@ -24,11 +37,11 @@
  *                     x86-64      aarch64
  *     zl_config          1264        1280
  *     zl_write_config    1376        1472
- *     zl_check            352         304
- *     zl_row             3344        2864
- *     zl_write_row       2576        2544
- *     zl_length          2032        1920
- *     zl_change          4224        3424
+ *     zl_check            368         304
+ *     zl_row             2928        2880
+ *     zl_write_row       2576        2576
+ *     zl_length          2048        1952
+ *     zl_change          3584        3472
  *     zl_reason           720         720
  */
 #ifndef ZAGALUME_H
@@ -38,7 +51,7 @@
 #include <stdint.h>
 
 /* The version of this header and its library. */
-#define ZL_VERSION "0.2.0"
+#define ZL_VERSION "0.3.0"
 
 #ifdef __cplusplus
 extern "C" {
@@ -82,10 +95,11 @@ enum {
     ZL_REFUSED_FILE_LENGTH = 11,  /* wrong length of the data file; binary kinds 0, 0; ASCII row, 0 */
     ZL_REFUSED_ROW_NUMBER = 12,   /* a row's number is not the row's; row, 1 */
     ZL_REFUSED_PADDING = 13,      /* a padding bit is set; row, 0 */
-    ZL_REFUSED_TEXT_ROW = 14,     /* a row or a field of a text is bad; row, field, or row, 0 for the whole row */
+    ZL_REFUSED_TEXT_ROW = 14,     /* a row or a field of a text is bad; row, field, or row, 0 for the whole row. A sample's
+                                     field may be empty: the sample is missing */
     ZL_REFUSED_NO_SUCH_ROW = 15,  /* there is no such row; 0, 0 */
     ZL_REFUSED_MISFIT = 16,       /* a sample does not fit the kind that is written, or a time or status of a lent row its
-                                     field; row, field */
+                                     field; row, field. A missing sample fits every kind */
     ZL_REFUSED_NO_ROOM = 17       /* what is lent to be written is too short; 0, 0 */
 };
 
@@ -131,11 +145,29 @@ enum {
     ZL_MOMENT_PLACES = 7
 };
 
-/* The places of a row, as zl_row shows it and zl_write_row takes it: the time, then A samples, then D statuses (0 or 1). */
+/*
+ * The places of a row, as zl_row shows it and zl_write_row takes it: the time, then A samples, then D statuses (0 or 1). A
+ * sample is a number, or ZL_NONE where it is missing. The numbers are -32,767 to 32,767 in binary, and -2,147,483,647 to
+ * 2,147,483,647 in binary32 and ASCII.
+ */
 enum {
     ZL_ROW_TIME = 0,
     ZL_ROW_SAMPLES = 1 /* the statuses begin at ZL_ROW_SAMPLES + A */
 };
+
+/*
+ * The place of a missing sample; a time or a status is never missing. Compare before you narrow: ZL_NONE cut to 32 bits is
+ * 0, which is a sample. In a file a missing sample is 8000 hex in binary, 80000000 hex in binary32 and an empty field in
+ * ASCII. So whoever reads samples from their bytes looks for that pattern first: taken for a number, it would be a full
+ * negative swing that was never there.
+ */
+#define ZL_NONE INT64_MIN
+
+/* 1 where the place of a sample says that it is missing, else 0. */
+static inline int zl_is_missing(int64_t place)
+{
+    return place == ZL_NONE;
+}
 
 /*
  * Reads a configuration and shows it.
@@ -168,9 +200,10 @@ zl_answer zl_check(uint32_t a, uint32_t d, uint32_t rows, uint32_t kind, const u
  * Shows row n, counted from 1, of a data file that is fine as a whole.
  * Each call checks the whole file, so that all rows one by one take time that grows with the square of their number:
  * 28 s for 10,000 rows of ASCII, 32 samples and 32 statuses each. For all rows, change the file to ZL_BINARY32 once, which
- * every sample fits, and read each row from its place, as examples/c/all_rows.c does: 0.05 s for the same file, printing
- * included (processor time on x86-64).
- *   Yes:    1 + a + d places of shown are written, the time, the samples and the statuses; length is 0.
+ * every sample fits, and read each row from its place, a sample of 80000000 hex as missing, as examples/c/all_rows.c does:
+ * 0.05 s for the same file, printing included (processor time on x86-64).
+ *   Yes:    1 + a + d places of shown are written, the time, the samples and the statuses; a sample is a number of the
+ *           kind's range, or ZL_NONE where it is missing, and no other place is ZL_NONE; length is 0.
  *   No:     10; 15; then the file, as zl_check; last of all 17, where shown has fewer places.
  */
 zl_answer zl_row(uint32_t a, uint32_t d, uint32_t rows, uint32_t kind, const uint8_t *data, size_t data_length, uint32_t n,
@@ -180,10 +213,11 @@ zl_answer zl_row(uint32_t a, uint32_t d, uint32_t rows, uint32_t kind, const uin
  * Writes a row, in the places of zl_row, as row n of a data file of that layout. No end mark is added. Places of the row
  * past 1 + a + d are not read.
  *   Yes:    length bytes of out are written; a row of the binary kinds has 8 + w a + 2 ((d + 15) / 16) of them, w being 2
- *           for binary and 4 for binary32; a row of ASCII is in the plain form, with its CR LF.
+ *           for binary and 4 for binary32; a row of ASCII is in the plain form, with its CR LF. A sample of ZL_NONE is
+ *           written as missing.
  *   No:     10, also where the row has fewer than 1 + a + d places; 15; 16 at row n and the first field from the left that
- *           does not fit: a time outside 32 bits unsigned, a sample outside the kind's range, a status that is not 0 or 1;
- *           17, where out is too short.
+ *           does not fit: a time outside 32 bits unsigned, a sample that is neither ZL_NONE nor in the kind's range (so
+ *           -2,147,483,648 in every kind, and -32,768 in binary), a status that is not 0 or 1; 17, where out is too short.
  */
 zl_answer zl_write_row(uint32_t a, uint32_t d, uint32_t rows, uint32_t kind, uint32_t n, const int64_t *row,
                        size_t row_length, uint8_t *out, size_t out_length);
@@ -197,10 +231,11 @@ zl_answer zl_length(uint32_t a, uint32_t d, uint32_t rows, uint32_t kind, const 
                     uint32_t new_kind);
 
 /*
- * Changes a data file from its kind to new_kind, which may be the same: a text then comes out in its plain form.
+ * Changes a data file from its kind to new_kind, which may be the same: a text then comes out in its plain form. A missing
+ * sample fits every kind and stays missing.
  *   Yes:    length bytes of out are written, the new file; a text ends with the end mark, 1A 0D 0A hex.
- *   No:     10, of the layout and of new_kind; then the file, as zl_check; 16 at the first row and field whose sample does
- *           not fit new_kind; last of all 17, where out is too short.
+ *   No:     10, of the layout and of new_kind; then the file, as zl_check; 16 at the first row and field whose sample is a
+ *           number that does not fit new_kind; last of all 17, where out is too short.
  */
 zl_answer zl_change(uint32_t a, uint32_t d, uint32_t rows, uint32_t kind, const uint8_t *data, size_t data_length,
                     uint32_t new_kind, uint8_t *out, size_t out_length);

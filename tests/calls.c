@@ -1,5 +1,6 @@
 /* Calls every function of zagalume.h, as C and as C++: what is answered, and that nothing changes but what an answer reports.
- * One recording, A = 1, D = 1, two rows; for the forms that take a layout A = 2, D = 1, one row. Prints what differs and then how many answers were held. */
+ * One recording, A = 1, D = 1, two rows, and the same with its first sample missing; for the forms that take a layout A = 2, D = 1, one row.
+ * Prints what differs and then how many answers were held. */
 #include "zagalume.h"
 
 #include <stdio.h>
@@ -135,6 +136,69 @@ static void files(void)
     judge_no("a change to no kind", zl_change(1, 1, 2, ZL_BINARY, binary, 24, 3, out, BYTES), ZL_REFUSED_LAYOUT, 0, 0);
 }
 
+/* The recording with its first sample missing, by kind, and its first row in places. */
+static const char missing_text[] = "1,0,,0\r\n2,1000,300,1\r\n\x1A\r\n";
+static const uint8_t missing_binary[] = {1, 0, 0, 0, 0, 0, 0, 0, 0, 0x80, 0, 0, 2, 0, 0, 0, 0xE8, 3, 0, 0, 0x2C, 1, 1, 0};
+static const uint8_t missing_binary32[] = {1, 0, 0, 0, 0, 0, 0, 0, 0, 0, 0, 0x80, 0, 0, 2, 0, 0, 0, 0xE8, 3, 0, 0, 0x2C, 1, 0, 0, 1, 0};
+static const void *const missing_files[] = {missing_text, missing_binary, missing_binary32};
+static const uint32_t missing_lengths[] = {sizeof missing_text - 1, sizeof missing_binary, sizeof missing_binary32};
+static const uint32_t missing_rows[] = {8, 12, 14};
+static const int64_t missing_row[] = {0, ZL_NONE, 0};
+
+/* A missing sample is shown as ZL_NONE, written from it, and stays missing in every kind. */
+static void missing_in(uint32_t kind)
+{
+    const uint8_t *data = (const uint8_t *)missing_files[kind];
+    uint32_t length = missing_lengths[kind];
+    zl_answer answer = zl_row(1, 1, 2, kind, data, length, 1, shown, PLACES);
+    judge("what a row with a missing sample shows", memcmp(shown, missing_row, sizeof missing_row) == 0 && zl_is_missing(shown[ZL_ROW_SAMPLES]) && untouched(0, 3));
+    judge_yes("a row with a missing sample", answer, NULL, 0, 0);
+    judge_yes("a file with a missing sample", zl_check(1, 1, 2, kind, data, length), NULL, 0, 0);
+    judge_yes("a missing sample written", zl_write_row(1, 1, 2, kind, 1, missing_row, 3, out, BYTES), data, missing_rows[kind], 0);
+    judge_no("a missing sample with no room", zl_write_row(1, 1, 2, kind, 1, missing_row, 3, out, missing_rows[kind] - 1), ZL_REFUSED_NO_ROOM, 0, 0);
+    for (uint32_t new_kind = ZL_ASCII; new_kind <= ZL_BINARY32; new_kind++) {
+        judge_yes("the length with a missing sample", zl_length(1, 1, 2, kind, data, length, new_kind), NULL, missing_lengths[new_kind], 0);
+        judge_yes("a missing sample changed", zl_change(1, 1, 2, kind, data, length, new_kind, out, BYTES), missing_files[new_kind], missing_lengths[new_kind], 0);
+    }
+}
+
+/* ZL_NONE is for samples alone, and the numbers next to it, and those that a kind keeps for a missing sample, are no samples. */
+static void no_samples_in(uint32_t kind)
+{
+    static const int64_t time[] = {ZL_NONE, 0, 0}, status[] = {0, 0, ZL_NONE}, lowest[] = {0, INT32_MIN, 0}, near_none[] = {0, ZL_NONE + 1, 0};
+    judge_no("a time of ZL_NONE", zl_write_row(1, 1, 2, kind, 2, time, 3, out, BYTES), ZL_REFUSED_MISFIT, 2, 2);
+    judge_no("a status of ZL_NONE", zl_write_row(1, 1, 2, kind, 2, status, 3, out, BYTES), ZL_REFUSED_MISFIT, 2, 4);
+    judge_no("the lowest number of 32 bits", zl_write_row(1, 1, 2, kind, 2, lowest, 3, out, BYTES), ZL_REFUSED_MISFIT, 2, 3);
+    judge_no("a number near ZL_NONE", zl_write_row(1, 1, 2, kind, 2, near_none, 3, out, BYTES), ZL_REFUSED_MISFIT, 2, 3);
+}
+
+/* The check of a text of one row, A = 1, D = 1. */
+static zl_answer check_line(const char *line)
+{
+    return zl_check(1, 1, 1, ZL_ASCII, bytes_of(line), strlen(line));
+}
+
+static void missing_samples(void)
+{
+    static const int64_t lowest[] = {0, -32767, 0}, below[] = {0, -32768, 0};
+    static const uint8_t lowest_row[] = {2, 0, 0, 0, 0, 0, 0, 0, 1, 0x80, 0, 0};
+    static const char low_text[] = "1,0,-32768,0\r\n";
+    judge("what is missing", zl_is_missing(ZL_NONE) && !zl_is_missing(0) && !zl_is_missing(INT32_MIN) && !zl_is_missing(ZL_NONE + 1));
+    for (uint32_t kind = ZL_ASCII; kind <= ZL_BINARY32; kind++) {
+        missing_in(kind);
+        no_samples_in(kind);
+    }
+    judge_yes("the lowest sample of binary", zl_write_row(1, 1, 2, ZL_BINARY, 2, lowest, 3, out, BYTES), lowest_row, 12, 0);
+    judge_no("-32768 in binary", zl_write_row(1, 1, 2, ZL_BINARY, 2, below, 3, out, BYTES), ZL_REFUSED_MISFIT, 2, 3);
+    judge_yes("-32768 in text", zl_write_row(1, 1, 1, ZL_ASCII, 1, below, 3, out, BYTES), low_text, 14, 0);
+    judge_no("-32768 to binary", zl_change(1, 1, 1, ZL_ASCII, bytes_of(low_text), 14, ZL_BINARY, out, BYTES), ZL_REFUSED_MISFIT, 1, 3);
+    judge_yes("an empty sample", check_line("1,0,,0\r\n"), NULL, 0, 0);
+    judge_no("a sample of a space", check_line("1,0, ,0\r\n"), ZL_REFUSED_TEXT_ROW, 1, 3);
+    judge_no("-2147483648 in text", check_line("1,0,-2147483648,0\r\n"), ZL_REFUSED_TEXT_ROW, 1, 3);
+    judge_no("an empty time", check_line("1,,,0\r\n"), ZL_REFUSED_TEXT_ROW, 1, 2);
+    judge_no("an empty status", check_line("1,0,,\r\n"), ZL_REFUSED_TEXT_ROW, 1, 4);
+}
+
 /* What is shown becomes a layout number by number, and each form hands its arguments on: no two of them can be exchanged unseen. */
 static void layouts(void)
 {
@@ -192,6 +256,7 @@ int main(void)
     written_configurations();
     rows();
     files();
+    missing_samples();
     layouts();
     reasons();
     printf("%d answers, %d differ\n", held, differ);

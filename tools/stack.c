@@ -146,12 +146,13 @@ static void make_configuration(void)
     add("F,3");
 }
 
-/* A file of each kind whose samples fit every kind, made by the library itself. */
+/* A file of each kind whose samples fit every kind, the first of each row missing, made by the library itself. */
 static void make_files(void)
 {
     row[ZL_ROW_TIME] = UINT32_MAX;
     for (int k = 1; k < ZL_MOST_ROW_PLACES; k++)
-        row[k] = k <= A ? -32768 : 1;
+        row[k] = k <= A ? -32767 : 1;
+    row[ZL_ROW_SAMPLES] = ZL_NONE;
     for (uint32_t kind = ZL_ASCII; kind <= ZL_BINARY32; kind++) {
         file_lengths[kind] = 0;
         for (uint32_t n = 1; n <= ROWS; n++)

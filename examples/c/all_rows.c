@@ -1,6 +1,6 @@
 /* all_rows CONFIGURATION DATA: prints every row of a recording of any kind, as the listing does, in time that grows with its
  * bytes. zl_row checks the whole data file at each call; here the file is checked and changed to binary32 once, which every
- * sample fits, and then each row is read from its place. */
+ * sample fits, and then each row is read from its place. A missing sample is printed as x. */
 #include "recording.h"
 
 #include <stdio.h>
@@ -8,6 +8,9 @@
 
 /* A row of binary32: 4 bytes of number, 4 of time, 4 for each sample and 2 for each 16 statuses, or a part of 16. */
 enum { TIME = 4, SAMPLES = 8, SAMPLE_SIZE = 4, STATUS_WORD_SIZE = 2 };
+
+/* The word that is kept for a missing sample. */
+static const uint32_t missing_word = 0x80000000;
 
 static size_t row_size(zl_layout layout)
 {
@@ -26,13 +29,19 @@ static int64_t signed_of(uint32_t word)
     return word <= INT32_MAX ? (int64_t)word : (int64_t)word - UINT32_MAX - 1;
 }
 
+/* The place of a sample, as zl_row shows it: whether it is missing comes first, and only else is the word a number. */
+static int64_t sample_of(uint32_t word)
+{
+    return word == missing_word ? ZL_NONE : signed_of(word);
+}
+
 /* Reads a row from its bytes into places, as zl_row shows them. Status k, from 0, is bit k of the words, the lowest first. */
 static void read_row(zl_layout layout, const uint8_t *bytes, int64_t *row)
 {
     const uint8_t *samples = bytes + SAMPLES, *statuses = samples + SAMPLE_SIZE * layout.a;
     row[ZL_ROW_TIME] = word_at(bytes + TIME);
     for (uint32_t k = 0; k < layout.a; k++)
-        row[ZL_ROW_SAMPLES + k] = signed_of(word_at(samples + SAMPLE_SIZE * k));
+        row[ZL_ROW_SAMPLES + k] = sample_of(word_at(samples + SAMPLE_SIZE * k));
     for (uint32_t k = 0; k < layout.d; k++)
         row[ZL_ROW_SAMPLES + layout.a + k] = statuses[k / 8] >> k % 8 & 1;
 }

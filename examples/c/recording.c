@@ -113,8 +113,12 @@ void print_layout(zl_layout layout)
 void print_row(zl_layout layout, uint32_t n, const int64_t *row)
 {
     printf("%" PRIu32, n);
-    for (uint32_t k = 0; k < 1 + layout.a + layout.d; k++)
-        printf(" %" PRId64, row[k]);
+    for (uint32_t k = 0; k < 1 + layout.a + layout.d; k++) {
+        if (zl_is_missing(row[k]))
+            printf(" x");
+        else
+            printf(" %" PRId64, row[k]);
+    }
     printf("\n");
 }
 

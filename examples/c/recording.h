@@ -42,7 +42,8 @@ int change(const struct recording *recording, uint32_t new_kind, struct bytes *c
 /* Prints the first line of a listing. */
 void print_layout(zl_layout layout);
 
-/* Prints a row as a line of the listing: its number, then its places, the time, the samples and the statuses. */
+/* Prints a row as a line of the listing: its number, then its places, the time, the samples and the statuses. A missing sample
+ * is no number, and is printed as x. */
 void print_row(zl_layout layout, uint32_t n, const int64_t *row);
 
 /* DONE where all that was printed has gone out, else TROUBLE. */

@@ -1,5 +1,5 @@
-//! The calls of libzagalume.a as include/zagalume.h declares them, and nothing else: that header says what each asks of its caller, answers and writes. The crate
-//! `zagalume` has them as safe functions.
+//! The calls of libzagalume.a as include/zagalume.h declares them, with the number that a missing sample has in them, and nothing else: that header says what each asks of
+//! its caller, answers and writes. The crate `zagalume` has them as safe functions.
 #![no_std]
 
 /// The answer of every call, `zl_answer` of the header: number 0 is "yes"; a "no" has its number and place, and length 0.
@@ -11,6 +11,9 @@ pub struct Answer {
     pub field: u32,
     pub length: u32,
 }
+
+/// The place of a missing sample in a row that is shown or written. Compare before you narrow: cut to 32 bits it is 0, which is a sample.
+pub const ZL_NONE: i64 = i64::MIN;
 
 #[rustfmt::skip]
 extern "C" {

@@ -2,15 +2,16 @@
 
 use crate::{calls, limits, refused, Refusal};
 use std::fmt;
+use zagalume_raw::ZL_NONE;
 
 /// The kind of data file.
 #[derive(Debug, Clone, Copy, PartialEq, Eq, Hash)]
 pub enum Kind {
-    /// Rows of text.
+    /// Rows of text; samples are -2,147,483,647 to 2,147,483,647.
     Ascii,
-    /// Samples of 2 bytes, -32,768 to 32,767.
+    /// Samples of 2 bytes, -32,767 to 32,767.
     Binary,
-    /// Samples of 4 bytes.
+    /// Samples of 4 bytes, -2,147,483,647 to 2,147,483,647.
     Binary32,
 }
 
@@ -75,13 +76,77 @@ impl Layout {
     }
 }
 
+/// What a row has for an analog channel: a sample, or that it is missing. A missing sample is no number, so ask for it first:
+///
+/// ```
+/// use zagalume::Sample;
+/// let cfg = include_bytes!("../../../examples/missing.cfg");
+/// let dat = include_bytes!("../../../examples/missing.dat");
+/// let row = zagalume::row(zagalume::read_config(cfg)?.layout(), dat, 1)?;
+/// for sample in row.samples {
+///     match sample {
+///         Sample::Missing => println!("nothing to play"),
+///         Sample::Is(number) => println!("play {number}"),
+///     }
+/// }
+/// # Ok::<(), zagalume::Refusal>(())
+/// ```
+///
+/// In a file it is 8000 hex in binary, 80000000 hex in binary32 and an empty field in text, and a change of kind leaves it missing.
+#[derive(Debug, Clone, Copy, PartialEq, Eq, Hash)]
+pub enum Sample {
+    /// A sample. No kind has the number -2,147,483,648: to write it is refused with 16.
+    Is(i32),
+    /// There is no sample.
+    Missing,
+}
+
+impl Sample {
+    /// The sample of a place in [`row_into`] and [`write_row_into`]; `None` for a number that is no sample of any kind, and does not stand for a missing one.
+    ///
+    /// ```
+    /// use zagalume::{limits, Sample};
+    /// let cfg = include_bytes!("../../../examples/missing.cfg");
+    /// let dat = include_bytes!("../../../examples/missing.dat");
+    /// let mut places = [0; limits::MOST_ROW_PLACES];
+    /// zagalume::row_into(zagalume::read_config(cfg)?.layout(), dat, 1, &mut places)?;
+    /// assert_eq!(Sample::of_place(places[1]), Some(Sample::Missing));
+    /// assert_eq!(Sample::of_place(places[2]), Some(Sample::Is(-3)));
+    /// # Ok::<(), zagalume::Refusal>(())
+    /// ```
+    pub fn of_place(place: i64) -> Option<Sample> {
+        match place {
+            ZL_NONE => Some(Sample::Missing),
+            number => i32::try_from(number).ok().filter(|&number| number != i32::MIN).map(Sample::Is),
+        }
+    }
+
+    /// Its place: the number, or `i64::MIN` where it is missing.
+    pub fn place(self) -> i64 {
+        match self {
+            Sample::Missing => ZL_NONE,
+            Sample::Is(number) => i64::from(number),
+        }
+    }
+}
+
+impl fmt::Display for Sample {
+    /// The number, or x where it is missing, as a listing has it.
+    fn fmt(&self, f: &mut fmt::Formatter<'_>) -> fmt::Result {
+        match self {
+            Sample::Missing => f.pad("x"),
+            Sample::Is(number) => number.fmt(f),
+        }
+    }
+}
+
 /// A row of a data file.
 #[derive(Debug, Clone, PartialEq, Eq, Hash)]
 pub struct Row {
     /// The timestamp.
     pub time: u32,
-    /// A sample for each analog channel.
-    pub samples: Vec<i32>,
+    /// For each analog channel its sample, or that it is missing.
+    pub samples: Vec<Sample>,
     /// Whether each status channel is on.
     pub statuses: Vec<bool>,
 }
@@ -92,7 +157,7 @@ impl Row {
         let (samples, statuses) = places[1..].split_at(analogs);
         Row {
             time: places[0] as u32,
-            samples: samples.iter().map(|&sample| sample as i32).collect(),
+            samples: samples.iter().map(|&place| Sample::of_place(place).expect("a row shows samples")).collect(),
             statuses: statuses.iter().map(|&status| status == 1).collect(),
         }
     }
@@ -103,7 +168,7 @@ impl Row {
         if !sized || layout.row_places() > places.len() {
             return Err(Refusal { number: refused::LAYOUT, at: 0, field: 0 });
         }
-        let samples = self.samples.iter().map(|&sample| i64::from(sample));
+        let samples = self.samples.iter().map(|sample| sample.place());
         let statuses = self.statuses.iter().map(|&status| i64::from(status));
         let row = std::iter::once(i64::from(self.time)).chain(samples).chain(statuses);
         for (place, value) in places.iter_mut().zip(row) {
@@ -134,17 +199,18 @@ pub fn check(layout: Layout, data: &[u8]) -> Result<(), Refusal> {
 /// Row n, counted from 1, of a data file that is fine as a whole.
 ///
 /// Each call checks the whole file, so that all rows one by one take time that grows with the square of their number: 28 s for 10,000 rows of ASCII, 32 samples and 32
-/// statuses each. For all rows, [`change`] the file to [`Kind::Binary32`] once, which every sample fits, and read each row from its place, as the example `all_rows` does:
-/// 0.05 s for the same file, printing included (processor time on x86-64).
+/// statuses each. For all rows, [`change`] the file to [`Kind::Binary32`] once, which every sample fits, and read each row from its place, a sample of 80000000 hex as
+/// missing, as the example `all_rows` does: 0.05 s for the same file, printing included (processor time on x86-64).
 ///
 /// Refused with 10; 15; then for the file, as [`check`].
 ///
 /// ```
-/// let cfg = include_bytes!("../../../examples/one.cfg");
-/// let dat = include_bytes!("../../../examples/one.dat");
+/// use zagalume::Sample;
+/// let cfg = include_bytes!("../../../examples/missing.cfg");
+/// let dat = include_bytes!("../../../examples/missing.dat");
 /// let layout = zagalume::read_config(cfg)?.layout();
 /// let row = zagalume::row(layout, dat, 2)?;
-/// assert_eq!((row.time, row.samples, row.statuses), (1000, vec![300], vec![true]));
+/// assert_eq!((row.time, row.samples, row.statuses), (1000, vec![Sample::Is(300), Sample::Missing], vec![true]));
 /// # Ok::<(), zagalume::Refusal>(())
 /// ```
 pub fn row(layout: Layout, data: &[u8], n: u32) -> Result<Row, Refusal> {
@@ -154,6 +220,7 @@ pub fn row(layout: Layout, data: &[u8], n: u32) -> Result<Row, Refusal> {
 }
 
 /// As [`row`], into lent places, with nothing allocated: the time, A samples and D statuses, 0 or 1. How many places were written, which is [`Layout::row_places`].
+/// The place of a missing sample is `i64::MIN`, which cut to 32 bits would be 0: let [`Sample::of_place`] read the places of samples.
 ///
 /// Refused as [`row`]; last of all with 17, where there are fewer places.
 pub fn row_into(layout: Layout, data: &[u8], n: u32, shown: &mut [i64]) -> Result<usize, Refusal> {
@@ -163,13 +230,13 @@ pub fn row_into(layout: Layout, data: &[u8], n: u32, shown: &mut [i64]) -> Resul
 
 /// The bytes of a row, as row n of a data file of that layout. No end mark is added.
 ///
-/// Refused with 10, also where the row has not A samples and D statuses; 15; 16 at row n and the first field whose sample does not fit the kind.
+/// Refused with 10, also where the row has not A samples and D statuses; 15; 16 at row n and the first field whose sample is a number that does not fit the kind.
 ///
 /// ```
-/// use zagalume::{Kind, Layout, Row};
-/// let layout = Layout { analogs: 1, statuses: 1, rows: 2, kind: Kind::Ascii };
-/// let row = Row { time: 1000, samples: vec![300], statuses: vec![true] };
-/// assert_eq!(zagalume::write_row(layout, 2, &row)?, b"2,1000,300,1\r\n");
+/// use zagalume::{Kind, Layout, Row, Sample};
+/// let layout = Layout { analogs: 2, statuses: 1, rows: 2, kind: Kind::Ascii };
+/// let row = Row { time: 1000, samples: vec![Sample::Missing, Sample::Is(300)], statuses: vec![true] };
+/// assert_eq!(zagalume::write_row(layout, 2, &row)?, b"2,1000,,300,1\r\n");
 /// # Ok::<(), zagalume::Refusal>(())
 /// ```
 pub fn write_row(layout: Layout, n: u32, row: &Row) -> Result<Vec<u8>, Refusal> {
@@ -181,6 +248,7 @@ pub fn write_row(layout: Layout, n: u32, row: &Row) -> Result<Vec<u8>, Refusal> 
 }
 
 /// As [`write_row`], from the places that [`row_into`] shows, into lent bytes, with nothing allocated: how many bytes were written. Places past 1 + A + D are not read.
+/// [`Sample::place`] gives the place of a sample.
 ///
 /// Refused with 10, also where the row has fewer places; 15; 16 at row n and the first field from the left that does not fit, a time or a status among them; 17, where the
 /// room is too short.
@@ -203,9 +271,9 @@ pub fn bytes_needed(layout: Layout, data: &[u8], new_kind: Kind) -> Result<usize
     calls::length(layout, data, new_kind.number())
 }
 
-/// The data file in another kind, or in the same: a text is then in its plain form.
+/// The data file in another kind, or in the same: a text is then in its plain form. A missing sample fits every kind and stays missing.
 ///
-/// Refused with 10; then for the file, as [`check`]; then with 16 at the first row and field whose sample does not fit the new kind.
+/// Refused with 10; then for the file, as [`check`]; then with 16 at the first row and field whose sample is a number that does not fit the new kind.
 ///
 /// ```
 /// let cfg = include_bytes!("../../../examples/one.cfg");

@@ -5,11 +5,19 @@
 //! with it. A file that breaks a rule gives a [`Refusal`], with its number and its place; [`reason`] says a number in words. On a refusal nothing that was lent has
 //! changed.
 //!
+//! A sample may be missing, and is then no number: a [`Sample`] says which.
+//!
 //! ```no_run
+//! use zagalume::Sample;
 //! let config = zagalume::read_config(&std::fs::read("fault.cfg")?)?;
 //! let data = std::fs::read("fault.dat")?;
 //! let first = zagalume::row(config.layout(), &data, 1)?;
-//! println!("at {}: {:?}", first.time, first.samples);
+//! for (channel, sample) in (1..).zip(first.samples) {
+//!     match sample {
+//!         Sample::Missing => println!("at {}: channel {channel} has no sample", first.time),
+//!         Sample::Is(number) => println!("at {}: channel {channel} has {number}", first.time),
+//!     }
+//! }
 //! # Ok::<(), Box<dyn std::error::Error>>(())
 //! ```
 //!
@@ -17,17 +25,24 @@
 //!
 //! [`row`] checks the whole data file at each call. For all rows, change the file to binary32 once, which every sample fits, and read each row from its place: 4 bytes of
 //! number, 4 of time, 4 for each sample and 2 for each 16 statuses, the low byte and the low bit first. That is 0.05 s in place of 28 s for 10,000 rows of ASCII with 32
-//! samples and 32 statuses each (processor time on x86-64). The example `all_rows` reads whole rows; these are the first samples:
+//! samples and 32 statuses each (processor time on x86-64).
+//!
+//! There 80000000 hex is a missing sample: taken for a number, it would be a full negative swing that was never there. The example `all_rows` reads whole rows; these are the
+//! first samples:
 //!
 //! ```
-//! let layout = zagalume::read_config(include_bytes!("../../../examples/one.cfg"))?.layout();
-//! let file = zagalume::change(layout, include_bytes!("../../../examples/one.dat"), zagalume::Kind::Binary32)?;
+//! use zagalume::Sample;
+//! let layout = zagalume::read_config(include_bytes!("../../../examples/missing.cfg"))?.layout();
+//! let file = zagalume::change(layout, include_bytes!("../../../examples/missing.dat"), zagalume::Kind::Binary32)?;
 //! let row_size = 8 + 4 * layout.analogs as usize + 2 * layout.statuses.div_ceil(16) as usize;
-//! let first_samples: Vec<i32> = file
+//! let first_samples: Vec<Sample> = file
 //!     .chunks_exact(row_size)
-//!     .map(|row| i32::from_le_bytes(row[8..12].try_into().unwrap()))
+//!     .map(|row| match u32::from_le_bytes(row[8..12].try_into().unwrap()) {
+//!         0x8000_0000 => Sample::Missing,
+//!         word => Sample::Is(word as i32),
+//!     })
 //!     .collect();
-//! assert_eq!(first_samples, [-3, 300]);
+//! assert_eq!(first_samples, [Sample::Missing, Sample::Is(300), Sample::Is(-32_767), Sample::Missing]);
 //! # Ok::<(), zagalume::Refusal>(())
 //! ```
 //!
@@ -45,7 +60,9 @@ mod data;
 mod refusal;
 
 pub use config::{read_config, write_config, write_config_into, Config, Moment, PreTrigger};
-pub use data::{bytes_needed, change, change_into, check, row, row_into, write_row, write_row_into, Kind, Layout, Row};
+pub use data::{
+    bytes_needed, change, change_into, check, row, row_into, write_row, write_row_into, Kind, Layout, Row, Sample,
+};
 pub use refusal::{reason, reason_into, refused, Refusal};
 
 /// The limits, and the room that anything within them needs.

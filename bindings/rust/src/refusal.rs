@@ -92,11 +92,11 @@ pub mod refused {
     pub const ROW_NUMBER: u32 = 12;
     /// A padding bit is set; at that row.
     pub const PADDING: u32 = 13;
-    /// A row or a field of a text is bad; at that row and field, or that row and field 0 for the whole row.
+    /// A row or a field of a text is bad; at that row and field, or that row and field 0 for the whole row. A sample's field may be empty: the sample is missing.
     pub const TEXT_ROW: u32 = 14;
     /// There is no such row.
     pub const NO_SUCH_ROW: u32 = 15;
-    /// A sample does not fit the kind that is written; at that row and field.
+    /// A sample does not fit the kind that is written; at that row and field. A missing sample fits every kind.
     pub const MISFIT: u32 = 16;
     /// What is lent to be written is too short.
     pub const NO_ROOM: u32 = 17;

@@ -1,7 +1,7 @@
 //! The names and numbers of include/zagalume.h are those of this crate, and its calls those of `zagalume-raw`.
 
 use std::collections::BTreeMap;
-use zagalume::{limits, refused, Kind};
+use zagalume::{limits, refused, Kind, Sample};
 
 const HEADER: &str = include_str!("../../../include/zagalume.h");
 
@@ -68,6 +68,13 @@ fn limits() {
         ("REASON_BYTES", limits::MOST_REASON_BYTES),
     ];
     assert_eq!(BTreeMap::from(numbers), named_after("MOST_"));
+}
+
+#[test]
+fn missing() {
+    let named: Vec<&str> = HEADER.lines().filter_map(|line| line.strip_prefix("#define ZL_NONE ")).collect();
+    assert_eq!(named, ["INT64_MIN"]);
+    assert_eq!(Sample::Missing.place(), i64::MIN);
 }
 
 #[test]

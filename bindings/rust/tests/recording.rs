@@ -1,6 +1,6 @@
-//! One recording in its three kinds, from the repository's examples: read, checked, shown, written and changed.
+//! Two recordings in their three kinds, from the repository's examples, one of them with missing samples: read, checked, shown, written and changed.
 
-use zagalume::{Config, Kind, Layout, Moment, PreTrigger, Row};
+use zagalume::{Config, Kind, Layout, Moment, PreTrigger, Row, Sample};
 
 const ONE: [(&[u8], &[u8], Kind); 3] = [
     (include_bytes!("../../../examples/one.cfg"), include_bytes!("../../../examples/one.dat"), Kind::Ascii),
@@ -16,14 +16,43 @@ const ONE: [(&[u8], &[u8], Kind); 3] = [
     ),
 ];
 
+/// The recording with missing samples.
+const MISSING: [(&[u8], &[u8], Kind); 3] = [
+    (include_bytes!("../../../examples/missing.cfg"), include_bytes!("../../../examples/missing.dat"), Kind::Ascii),
+    (
+        include_bytes!("../../../examples/missing-binary.cfg"),
+        include_bytes!("../../../examples/missing-binary.dat"),
+        Kind::Binary,
+    ),
+    (
+        include_bytes!("../../../examples/missing-binary32.cfg"),
+        include_bytes!("../../../examples/missing-binary32.dat"),
+        Kind::Binary32,
+    ),
+];
+
 fn layout(kind: Kind) -> Layout {
     Layout { analogs: 1, statuses: 1, rows: 2, kind }
 }
 
 fn rows() -> [Row; 2] {
     [
-        Row { time: 0, samples: vec![-3], statuses: vec![false] },
-        Row { time: 1000, samples: vec![300], statuses: vec![true] },
+        Row { time: 0, samples: vec![Sample::Is(-3)], statuses: vec![false] },
+        Row { time: 1000, samples: vec![Sample::Is(300)], statuses: vec![true] },
+    ]
+}
+
+fn missing_layout(kind: Kind) -> Layout {
+    Layout { analogs: 2, statuses: 1, rows: 4, kind }
+}
+
+fn missing_rows() -> [Row; 4] {
+    let row = |time, samples: [Sample; 2], on| Row { time, samples: samples.to_vec(), statuses: vec![on] };
+    [
+        row(0, [Sample::Missing, Sample::Is(-3)], false),
+        row(1000, [Sample::Is(300), Sample::Missing], true),
+        row(2000, [Sample::Is(-32_767), Sample::Is(32_767)], true),
+        row(3000, [Sample::Missing, Sample::Missing], false),
     ]
 }
 
@@ -87,6 +116,64 @@ fn each_kind_is_changed_to_each() {
 }
 
 #[test]
+fn a_missing_sample_is_shown_and_written_in_each_kind() {
+    for (cfg, dat, kind) in MISSING {
+        assert_eq!(zagalume::read_config(cfg).unwrap().layout(), missing_layout(kind));
+        zagalume::check(missing_layout(kind), dat).unwrap();
+        let mut bytes = Vec::new();
+        for (n, row) in (1..).zip(missing_rows()) {
+            assert_eq!(zagalume::row(missing_layout(kind), dat, n).as_ref(), Ok(&row));
+            bytes.extend(zagalume::write_row(missing_layout(kind), n, &row).unwrap());
+        }
+        if kind == Kind::Ascii {
+            bytes.extend([0x1A, 0x0D, 0x0A]);
+        }
+        assert_eq!(bytes, dat);
+    }
+}
+
+#[test]
+fn a_missing_sample_stays_missing() {
+    for (cfg, dat, kind) in MISSING {
+        for (new_cfg, new_dat, new_kind) in MISSING {
+            assert_eq!(zagalume::write_config(cfg, new_kind).unwrap(), new_cfg);
+            assert_eq!(zagalume::bytes_needed(missing_layout(kind), dat, new_kind), Ok(new_dat.len()));
+            assert_eq!(zagalume::change(missing_layout(kind), dat, new_kind).unwrap(), new_dat);
+        }
+    }
+}
+
+#[test]
+fn a_sample_and_its_place() {
+    for (sample, place, printed) in [
+        (Sample::Missing, i64::MIN, "x"),
+        (Sample::Is(0), 0, "0"),
+        (Sample::Is(i32::MAX), 2_147_483_647, "2147483647"),
+        (Sample::Is(-i32::MAX), -2_147_483_647, "-2147483647"),
+    ] {
+        assert_eq!((sample.place(), sample.to_string()), (place, printed.to_string()));
+        assert_eq!(Sample::of_place(place), Some(sample));
+    }
+    for place in [i64::MIN + 1, -2_147_483_649, -2_147_483_648, 2_147_483_648, i64::MAX] {
+        assert_eq!(Sample::of_place(place), None);
+    }
+    assert_eq!(format!("{:>3}|{:>3}", Sample::Missing, Sample::Is(7)), "  x|  7");
+}
+
+#[test]
+fn places_of_missing_samples() {
+    for (_, dat, kind) in MISSING {
+        let mut places = [7; 5];
+        assert_eq!(zagalume::row_into(missing_layout(kind), dat, 1, &mut places), Ok(4));
+        assert_eq!(places, [0, i64::MIN, -3, 0, 7]);
+        let mut bytes = [0; 32];
+        let length = zagalume::write_row_into(missing_layout(kind), 1, &places, &mut bytes).unwrap();
+        assert_eq!(bytes[..length], dat[..length]);
+        assert_eq!(length, [11, 14, 18][kind.number() as usize]);
+    }
+}
+
+#[test]
 fn each_configuration_is_written_for_each_kind() {
     for (cfg, _, _) in ONE {
         for (new_cfg, _, new_kind) in ONE {
@@ -131,9 +218,13 @@ fn what_is_lent_past_the_answer_stays_as_it_was() {
 fn the_largest_row_of_each_kind() {
     for kind in [Kind::Ascii, Kind::Binary, Kind::Binary32] {
         let largest = Layout { analogs: 96, statuses: 256, rows: 1, kind };
-        let row = Row { time: u32::MAX, samples: vec![i16::MIN.into(); 96], statuses: vec![true; 256] };
+        let row = Row { time: u32::MAX, samples: vec![Sample::Is(-32_767); 96], statuses: vec![true; 256] };
         let bytes = zagalume::write_row(largest, 1, &row).unwrap();
         assert_eq!(bytes.len(), [1 + 11 + 96 * 7 + 256 * 2 + 2, 232, 424][kind.number() as usize]);
+        assert_eq!(zagalume::row(largest, &bytes, 1).unwrap(), row);
+        let row = Row { samples: vec![Sample::Missing; 96], ..row };
+        let bytes = zagalume::write_row(largest, 1, &row).unwrap();
+        assert_eq!(bytes.len(), [1 + 11 + 96 + 256 * 2 + 2, 232, 424][kind.number() as usize]);
         assert_eq!(zagalume::row(largest, &bytes, 1).unwrap(), row);
     }
 }

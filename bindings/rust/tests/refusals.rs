@@ -1,7 +1,7 @@
 //! Every refusal comes back with its number and place, and leaves what was lent as it was.
 
 use std::{collections::BTreeSet, fs, path::Path};
-use zagalume::{refused, Config, Kind, Layout, Refusal, Row};
+use zagalume::{refused, Config, Kind, Layout, Refusal, Row, Sample};
 
 fn no(number: u32, at: u32, field: u32) -> Refusal {
     Refusal { number, at, field }
@@ -86,7 +86,10 @@ fn layouts_outside_the_limits() {
         assert_eq!(zagalume::check(bad, &[]), Err(refusal));
         assert_eq!(zagalume::row(bad, &[], 0), Err(refusal));
         assert_eq!(zagalume::write_row_into(bad, 0, &[], &mut []), Err(refusal));
-        assert_eq!(zagalume::write_row(bad, 0, &Row { time: 0, samples: vec![0], statuses: vec![] }), Err(refusal));
+        assert_eq!(
+            zagalume::write_row(bad, 0, &Row { time: 0, samples: vec![Sample::Missing], statuses: vec![] }),
+            Err(refusal)
+        );
         assert_eq!(zagalume::bytes_needed(bad, &[], Kind::Ascii), Err(refusal));
         assert_eq!(zagalume::change(bad, &[], Kind::Ascii), Err(refusal));
     }
@@ -96,7 +99,7 @@ fn layouts_outside_the_limits() {
 fn a_row_of_the_wrong_size_comes_before_no_such_row() {
     let refusal = Err(no(refused::LAYOUT, 0, 0));
     for (samples, statuses) in [(0, 1), (2, 1), (1, 0), (1, 2), (0, 2), (2, 0), (400, 400)] {
-        let row = Row { time: 0, samples: vec![0; samples], statuses: vec![false; statuses] };
+        let row = Row { time: 0, samples: vec![Sample::Missing; samples], statuses: vec![false; statuses] };
         assert_eq!(zagalume::write_row(one(Kind::Ascii), 3, &row), refusal);
     }
     assert_eq!(zagalume::write_row_into(one(Kind::Ascii), 3, &[0, 0], &mut []).map(|_| vec![]), refusal);
@@ -117,12 +120,61 @@ fn what_does_not_fit_comes_before_the_room() {
     let refusal = Err(no(refused::MISFIT, 2, 3));
     assert_eq!(zagalume::bytes_needed(one(Kind::Ascii), data, Kind::Binary), refusal);
     assert_eq!(zagalume::change_into(one(Kind::Ascii), data, Kind::Binary, &mut []), refusal);
-    let row = Row { time: 0, samples: vec![32_768], statuses: vec![false] };
-    assert_eq!(zagalume::write_row(one(Kind::Binary), 1, &row), Err(no(refused::MISFIT, 1, 3)));
+    let written = |kind, number| {
+        let row = Row { time: 0, samples: vec![Sample::Is(number)], statuses: vec![false] };
+        zagalume::write_row(one(kind), 1, &row)
+    };
+    for number in [32_768, -32_768, i32::MAX, -i32::MAX] {
+        assert_eq!(written(Kind::Binary, number), Err(no(refused::MISFIT, 1, 3)));
+        assert!(written(Kind::Ascii, number).is_ok() && written(Kind::Binary32, number).is_ok());
+    }
+    for kind in [Kind::Ascii, Kind::Binary, Kind::Binary32] {
+        assert_eq!(written(kind, i32::MIN), Err(no(refused::MISFIT, 1, 3)));
+    }
     for (field, row) in [(2, [-1, 40_000, 2]), (2, [1 << 32, 0, 0]), (3, [0, 40_000, 2]), (4, [0, 0, 2])] {
         let mut out = [7; 100];
         let written = zagalume::write_row_into(one(Kind::Binary), 2, &row, &mut out);
         assert_eq!((written, out), (Err(no(refused::MISFIT, 2, field)), [7; 100]));
+    }
+}
+
+#[test]
+fn only_a_sample_is_missing() {
+    for kind in [Kind::Ascii, Kind::Binary, Kind::Binary32] {
+        for (field, row) in [(2, [i64::MIN, 0, 0]), (3, [0, i64::MIN + 1, 0]), (4, [0, i64::MIN, i64::MIN])] {
+            let mut out = [7; 100];
+            let written = zagalume::write_row_into(one(kind), 2, &row, &mut out);
+            assert_eq!((written, out), (Err(no(refused::MISFIT, 2, field)), [7; 100]));
+        }
+    }
+}
+
+#[test]
+fn only_a_sample_may_be_empty() {
+    let check = |line: &str| zagalume::check(layout(1, 1, 1, Kind::Ascii), line.as_bytes());
+    assert_eq!(check("1,0,,0\r\n"), Ok(()));
+    for (line, field) in [(",0,,0", 1), ("1,,,0", 2), ("1,0, ,0", 3), ("1,0,,", 4)] {
+        assert_eq!(check(&format!("{line}\r\n")), Err(no(refused::TEXT_ROW, 1, field)));
+    }
+    for (analogs, line) in [(1, "1,7,\r\n"), (2, "1,7,,\r\n")] {
+        let row = zagalume::row(layout(analogs, 0, 1, Kind::Ascii), line.as_bytes(), 1).unwrap();
+        assert_eq!(row.samples, vec![Sample::Missing; analogs as usize]);
+    }
+}
+
+#[test]
+fn the_lowest_number_is_no_sample() {
+    for sample in ["-2147483648", "-002147483648", "2147483648"] {
+        let line = format!("1,0,{sample},0\r\n");
+        let refusal = Err(no(refused::TEXT_ROW, 1, 3));
+        assert_eq!(zagalume::check(layout(1, 1, 1, Kind::Ascii), line.as_bytes()), refusal);
+    }
+    let text = layout(1, 1, 1, Kind::Ascii);
+    for (sample, number) in [("-2147483647", -2_147_483_647), ("-32768", -32_768)] {
+        let line = format!("1,0,{sample},0\r\n");
+        assert_eq!(zagalume::row(text, line.as_bytes(), 1).unwrap().samples, [Sample::Is(number)]);
+        let to_binary = zagalume::change(text, line.as_bytes(), Kind::Binary);
+        assert_eq!(to_binary, Err(no(refused::MISFIT, 1, 3)));
     }
 }
 

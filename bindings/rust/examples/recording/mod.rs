@@ -83,7 +83,7 @@ pub fn print_layout(out: &mut impl Write, layout: Layout) -> io::Result<()> {
     writeln!(out, "A {analogs} D {statuses} rows {rows} {kind}")
 }
 
-/// Prints a row as a line of the listing: its number, the time, the samples and the statuses.
+/// Prints a row as a line of the listing: its number, the time, the samples and the statuses. A missing sample is no number, and prints itself as x.
 pub fn print_row(out: &mut impl Write, n: u32, row: &Row) -> io::Result<()> {
     write!(out, "{n} {}", row.time)?;
     for sample in &row.samples {

@@ -7,10 +7,13 @@
 --     place-number, place-back                  a place is written as a number, and is what that number says
 --     sample-back, sample-bytes-back            a sample is read as it was written, and its bytes are written as they were read
 --     holds-size, size-holds                    a sample of a layout is smaller than half of the numbers of its width, and the other way round
+--     short-told, short-holds                   a number in the range of the kind binary, by two tests; it is a sample of every layout
 --     holds-there                               a sample of a layout is not missing
 --     missing-fits, fits-there, there-fits      a missing sample can be written in every layout, any other where it is a sample of it
 --     fits-word, word-fits                      what can be written has a number, and the other way round
 --     fits-small                                what can be written is a number of 32 bits
+--     mark-below, mark-above, mark-is           the number that marks a missing sample: no other, below or above
+--     mark-out                                  the number that marks a missing sample is no sample of a marked text
 -- Assumes nothing.
 use mathlib.Core.Path.{_≡_, refl, _∙_}
 use mathlib.Core.Bool.{true, false, not, _&&_, _||_}
@@ -19,7 +22,7 @@ use mathlib.Core.Logic.{⊎-elim}
 use Prim.Native.Nat.{ℕ, suc, _+_, _-_, _^_, _<_, _≤_}
 use native.Mathlib.Nat.{one-le-pow}
 use native.Mathlib.Omega.{arith}
-use borrow.Author.Tests.{eq-eqb, ne-eqb, eqb-true, eqb-false, ltb-false, le-ltb, not-true}
+use borrow.Author.Tests.{eq-eqb, ne-eqb, eqb-true, eqb-false, ltb-true, ltb-false, le-ltb, not-true}
 use lib.Dec.{lit<, eqb, ltb}
 use lib.IntN.{ℤ, pos, negsuc, natAbs}
 use lib.ListN.{length}
@@ -33,9 +36,11 @@ use Rattle.words.proofs.WordLaws.{wordOf-lt, word-back, bytes-back}
 use Rattle.words.proofs.SignedLaws.{signed-low, signed-high, signed-back, unsigned-back, unsigned-small, half-twice, is-lowest, lowest-below}
 use Rattle.model.specs.declared.Kind.{Kind}
 use Rattle.model.specs.declared.Kind.the-variants.{Ascii, Binary, Binary32}
+use Rattle.model.specs.declared.Edition.{Edition}
+use Rattle.model.specs.declared.Edition.the-variants.{Y2013, Y1999}
 use Rattle.model.specs.declared.Layout.{Layout}
 use Rattle.model.specs.Kinds.{halfOf, lowestOf, highestOf}
-use Rattle.model.specs.Samples.{missing, isMissing, none, isNone, holds, fits, sampleOfWord, wordOfSample}
+use Rattle.model.specs.Samples.{missing, isMissing, none, isNone, holds, fits, sampleOfWord, wordOfSample, markedIn, marked, isMark}
 use Rattle.model.specs.Inner.{HasWord}
 use Rattle.model.proofs.KindLaws.{half-le}
 
@@ -140,24 +145,67 @@ inside : (m : ℕ) (z : ℤ) → natAbs z ≤ suc m → not (ltZ z (negsuc m)) &
 inside m (pos n) h = rw (le-ltb (suc m) n h)
 inside m (negsuc n) h = rw (le-ltb m n (omega arith))
 
-kind-size : (k : Kind) (z : ℤ) → not (ltZ z (lowestOf k)) && not (ltZ (highestOf k) z) ≡ true → natAbs z < halfOf k
-kind-size Ascii z e = omega (arith, within 2147483646 z e)
-kind-size Binary z e = omega (arith, within 32766 z e)
-kind-size Binary32 z e = omega (arith, within 2147483646 z e)
+-- the range of the marked text is not the same above and below: 99999 is no sample, and -99999 is one
+marked-size : (z : ℤ) → not (ltZ z (negsuc 99998)) && not (ltZ (pos 99998) z) ≡ true → natAbs z ≤ 99999
+marked-size (pos n) e = omega (arith, ltb-false 99998 n (not-true (ltb 99998 n) e))
+marked-size (negsuc n) e = omega (arith, ltb-false 99998 n (not-true (ltb 99998 n) (and-split (not (ltb 99998 n)) true e .0)))
 
-size-kind : (k : Kind) (z : ℤ) → natAbs z < halfOf k → not (ltZ z (lowestOf k)) && not (ltZ (highestOf k) z) ≡ true
-size-kind Ascii z h = inside 2147483646 z (omega arith)
-size-kind Binary z h = inside 32766 z (omega arith)
-size-kind Binary32 z h = inside 2147483646 z (omega arith)
+kind-size : (k : Kind) (e : Edition) (z : ℤ) → not (ltZ z (lowestOf k e)) && not (ltZ (highestOf k e) z) ≡ true → natAbs z < halfOf k
+kind-size Ascii Y2013 z h = omega (arith, within 2147483646 z h)
+kind-size Ascii Y1999 z h = omega (arith, marked-size z h)
+kind-size Binary e z h = omega (arith, within 32766 z h)
+kind-size Binary32 e z h = omega (arith, within 2147483646 z h)
+
+size-kind : (k : Kind) (e : Edition) (z : ℤ) → (k ≡ Ascii → ⊥) → natAbs z < halfOf k → not (ltZ z (lowestOf k e)) && not (ltZ (highestOf k e) z) ≡ true
+size-kind Ascii e z binary h = absurd (binary refl)
+size-kind Binary e z binary h = inside 32766 z (omega arith)
+size-kind Binary32 e z binary h = inside 2147483646 z (omega arith)
+
+pub mark-below : (z : ℤ) → ltZ z (pos 99999) ≡ true → isMark z ≡ false
+unfolding isMark
+mark-below (pos n) e = ne-eqb n 99999 (λ q. omega (arith, ltb-true n 99999 e))
+mark-below (negsuc n) e = refl
+
+pub mark-above : (z : ℤ) → ltZ (pos 99999) z ≡ true → isMark z ≡ false
+unfolding isMark
+mark-above (pos n) e = ne-eqb n 99999 (λ q. omega (arith, ltb-true 99999 n e))
+mark-above (negsuc n) e = refl
+
+pub mark-is : (z : ℤ) → ltZ z (pos 99999) ≡ false → ltZ (pos 99999) z ≡ false → isMark z ≡ true
+unfolding isMark
+mark-is (pos n) low high = eq-eqb n 99999 (omega (arith, ltb-false n 99999 low, ltb-false 99999 n high))
+mark-is (negsuc n) low high = cc
+
+mark-outside : (k : Kind) (e : Edition) (z : ℤ) → markedIn k e ≡ true → isMark z ≡ true → not (ltZ z (lowestOf k e)) && not (ltZ (highestOf k e) z) ≡ false
+unfolding isMark
+mark-outside Ascii Y2013 z m t = cc
+mark-outside Ascii Y1999 (pos n) m t = rw (eqb-true n 99999 t)
+mark-outside Ascii Y1999 (negsuc n) m t = cc
+mark-outside Binary e z m t = cc
+mark-outside Binary32 e z m t = cc
+
+pub short-told : (z : ℤ) → ltZ z (negsuc 32766) ≡ false → ltZ (pos 32767) z ≡ false → natAbs z < 32768
+short-told z low high = let e : not (ltZ z (negsuc 32766)) && not (ltZ (pos 32767) z) ≡ true = rw (low, high) in omega (arith, within 32766 z e)
+
+short-kind : (k : Kind) (e : Edition) (z : ℤ) → natAbs z < 32768 → not (ltZ z (lowestOf k e)) && not (ltZ (highestOf k e) z) ≡ true
+short-kind Ascii Y2013 z h = inside 2147483646 z (omega arith)
+short-kind Ascii Y1999 (pos n) h = rw (le-ltb 99998 n (omega arith))
+short-kind Ascii Y1999 (negsuc n) h = rw (le-ltb 99998 n (omega arith))
+short-kind Binary e z h = inside 32766 z (omega arith)
+short-kind Binary32 e z h = inside 2147483646 z (omega arith)
 
 module _ (l : Layout) where
+  pub short-holds : (z : ℤ) → natAbs z < 32768 → holds l z ≡ true
+  unfolding holds
+  short-holds = short-kind (l .kind) (l .edition)
+
   pub holds-size : (z : ℤ) → holds l z ≡ true → natAbs z < halfOf (l .kind)
   unfolding holds
-  holds-size = kind-size (l .kind)
+  holds-size = kind-size (l .kind) (l .edition)
 
   pub size-holds : (z : ℤ) → (l .kind ≡ Ascii → ⊥) → natAbs z < halfOf (l .kind) → holds l z ≡ true
   unfolding holds
-  size-holds z binary = size-kind (l .kind) z
+  size-holds z binary = size-kind (l .kind) (l .edition) z binary
 
   -- the size of the place of a missing sample is not below any half
   pub holds-there : (z : ℤ) → holds l z ≡ true → isMissing z ≡ false
@@ -189,3 +237,7 @@ module _ (l : Layout) where
       on-test (isMissing z)
       (λ t. rw (is-missing z t) (omega arith))
       (λ t. omega (arith, half-le (l .kind), size-mag (halfOf (l .kind)) z (fits-word z e t)))
+
+  pub mark-out : (z : ℤ) → marked l ≡ true → isMark z ≡ true → holds l z ≡ false
+  unfolding marked holds
+  mark-out = mark-outside (l .kind) (l .edition)

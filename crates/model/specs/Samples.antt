@@ -1,11 +1,15 @@
 -- What a place of a row says of its analog channel: a sample, or that it is missing.
-use mathlib.Core.Bool.{Bool, not, _&&_, _||_}
+use mathlib.Core.Bool.{Bool, true, false, not, _&&_, _||_}
 use Prim.Native.Nat.{ℕ}
 use lib.Dec.{eqb}
-use lib.IntN.{ℤ, negsuc}
+use lib.IntN.{ℤ, pos, negsuc}
 use lib.Signed.{ltZ}
 use Rattle.ground.specs.Choice.{if_then_else_}
 use Rattle.words.specs.Signed.{signedOf, unsignedOf, isLowest}
+use Rattle.model.specs.declared.Kind.{Kind}
+use Rattle.model.specs.declared.Kind.the-variants.{Ascii, Binary, Binary32}
+use Rattle.model.specs.declared.Edition.{Edition}
+use Rattle.model.specs.declared.Edition.the-variants.{Y2013, Y1999}
 use Rattle.model.specs.declared.Layout.{Layout}
 use Rattle.model.specs.declared.Sample.{Sample}
 use Rattle.model.specs.declared.Sample.the-variants.{Is, Missing}
@@ -31,9 +35,9 @@ isNone z = isLowest 9223372036854775807 z
 unfoldable pub sampleOf : ℤ → Sample
 sampleOf z = if isMissing z then Missing else Is z
 
--- a number that is a sample of the layout: not outside the range of its kind
+-- a number that is a sample of the layout: not outside the range of its kind and edition
 unfoldable pub holds : Layout → ℤ → Bool
-holds l z = not (ltZ z (lowestOf (l .kind))) && not (ltZ (highestOf (l .kind)) z)
+holds l z = not (ltZ z (lowestOf (l .kind) (l .edition))) && not (ltZ (highestOf (l .kind) (l .edition)) z)
 
 -- a place that can be written in the layout: missing, or a sample of it
 unfoldable pub fits : Layout → ℤ → Bool
@@ -46,3 +50,19 @@ sampleOfWord h n = if eqb n h then missing else signedOf h n
 -- the number that a place is written as
 unfoldable pub wordOfSample : ℕ → ℤ → ℕ
 wordOfSample h z = if isMissing z then h else unsignedOf h z
+
+-- a text that marks a missing sample by a number, and has no empty field: that of 1999
+abbrev pub markedIn : Kind → Edition → Bool
+markedIn Ascii Y2013 = false
+markedIn Ascii Y1999 = true
+markedIn Binary e = false
+markedIn Binary32 e = false
+
+-- a layout of such a text
+unfoldable pub marked : Layout → Bool
+marked l = markedIn (l .kind) (l .edition)
+
+-- the number that marks it is 99999
+unfoldable pub isMark : ℤ → Bool
+isMark (pos n) = eqb n 99999
+isMark (negsuc n) = false

@@ -2,7 +2,7 @@
 --     time-again, sample-again, status-again     a plain field, read and written again, is the same
 --     line-again                                 so is a line whose number, timestamp and samples are plain
 -- Assumes nothing.
-use mathlib.Core.Path.{_≡_, _∙_}
+use mathlib.Core.Path.{_≡_, sym, _∙_}
 use mathlib.Core.Bool.{true, false}
 use mathlib.Core.Logic.{inl, inr, ⊎-elim}
 use mathlib.Core.List.{List, [], _∷_}
@@ -10,33 +10,42 @@ use Prim.Native.Nat.{ℕ, zero, suc, _+_, _-_, _<_, _≤_}
 use native.Mathlib.Omega.{arith}
 use borrow.Author.Tests.{eqb-true}
 use lib.Dec.{eqb}
-use lib.IntN.{ℤ}
+use lib.IntN.{ℤ, pos}
 use Rattle.ground.proofs.Cases.{on-test, lt-or-ge}
 use Rattle.text.specs.Fields.{fieldAt}
 use Rattle.text.proofs.FieldLaws.{joined-ext, fields-joined}
-use Rattle.numerals.specs.Decimals.{decimal, isPlainCount}
+use Rattle.numerals.specs.declared.Whole.the-variants.{Is}
+use Rattle.numerals.specs.Wholes.{readWhole}
+use Rattle.numerals.specs.Decimals.{decimal, isPlainCount, isPlain}
 use Rattle.numerals.proofs.PlainLaws.{decimal-count}
 use Rattle.numerals.proofs.WholeLaws.{plain-whole}
 use Rattle.model.specs.declared.Layout.{Layout}
-use Rattle.model.specs.Samples.{missing}
+use Rattle.model.specs.Samples.{missing, marked}
 use Rattle.model.proofs.SampleLaws.{missing-is, holds-there}
 use Rattle.ascii_row.specs.Fields.{readTimestamp, readSample, isStatus, isCount, isWhole, timeIn, sampleIn, statusIn}
 use Rattle.ascii_row.specs.Rows.{rowOf}
-use Rattle.ascii_row.proofs.FieldLaws.{SampleTold, whole-some, time-read, sample-read}
+use Rattle.ascii_row.proofs.FieldLaws.{MissingTold, missing-told, SampleTold, whole-some, time-read, sample-read}
 use Rattle.ascii_row.proofs.LineLaws.{FineLine, sample-there, status-there}
-use Rattle.ascii_plain.specs.Rows.{sampleChars, statusChar, lineOf}
+use Rattle.ascii_plain.specs.Rows.{missingChars, sampleChars, statusChar, lineOf}
 use Rattle.ascii_plain.specs.Inner.{isPlainSample}
-use Rattle.ascii_plain.proofs.LengthLaws.{chars-missing, chars-there}
+use Rattle.ascii_plain.proofs.LengthLaws.{missing-none, missing-mark, chars-missing, chars-there}
 use Rattle.ascii_plain.proofs.LineLaws.{fieldText, field-sample, field-status, as-joined}
 
 pub time-again : (f : List ℕ) → isPlainCount f ≡ true → isCount (readTimestamp f) ≡ true → decimal (timeIn f) ≡ f
 time-again f p h = decimal-count 1 13 f (timeIn f) p (time-read f h)
 
--- a number that was read is a sample, and not empty
-told-again : (l : Layout) (f : List ℕ) (z : ℤ) → isPlainSample l f ≡ true → SampleTold l f z → sampleChars l z ≡ f
+-- a plain field that is read as a number is a plain number
+plain-number : (l : Layout) (f : List ℕ) (z : ℤ) → isPlainSample l f ≡ true → readWhole f ≡ Is z → isPlain f ≡ true
 unfolding isPlainSample
-told-again l f z p (inl (e, n)) = rw (e, n) (chars-missing l missing missing-is)
-told-again l f z p (inr (e, h)) = chars-there l z (holds-there l z h) ∙ plain-whole f z (rw (whole-some f z e) at p) e
+plain-number l f z p e = on-test (marked l) (λ t. rw t at p) (λ t. rw (t, whole-some f z e) at p)
+
+missing-again : (l : Layout) (f : List ℕ) → isPlainSample l f ≡ true → MissingTold l f → missingChars l ≡ f
+missing-again l f p (inl (t, n)) = missing-none l t ∙ sym n
+missing-again l f p (inr (t, e)) = missing-mark l t ∙ plain-whole f (pos 99999) (plain-number l f (pos 99999) p e) e
+
+told-again : (l : Layout) (f : List ℕ) (z : ℤ) → isPlainSample l f ≡ true → SampleTold l f z → sampleChars l z ≡ f
+told-again l f z p (inl (e, m)) = rw e (chars-missing l missing missing-is ∙ missing-again l f p (missing-told l f m))
+told-again l f z p (inr (e, h)) = chars-there l z (holds-there l z h) ∙ plain-whole f z (plain-number l f z p e) e
 
 pub sample-again : (l : Layout) (f : List ℕ) → isPlainSample l f ≡ true → isWhole (readSample l f) ≡ true → sampleChars l (sampleIn l f) ≡ f
 sample-again l f p h = told-again l f (sampleIn l f) p (sample-read l f h)

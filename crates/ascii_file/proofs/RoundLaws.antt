@@ -29,16 +29,16 @@ use Rattle.numerals.proofs.WholeLaws.{whole-plain}
 use Rattle.model.specs.declared.Layout.{Layout}
 use Rattle.model.specs.declared.Row.{Row}
 use Rattle.model.specs.Layouts.{Sized}
-use Rattle.model.specs.Samples.{isMissing, fits}
+use Rattle.model.specs.Samples.{isMissing, fits, marked}
 use Rattle.model.specs.Rows.{latestTime, trimmed}
 use Rattle.model.proofs.SampleLaws.{is-missing, fits-there, fits-small}
-use Rattle.ascii_row.specs.Fields.{readTimestamp, readSample, isStatus, timeIn, sampleIn, statusIn}
+use Rattle.ascii_row.specs.Fields.{readTimestamp, isMissingField, readSample, isStatus, timeIn, sampleIn, statusIn}
 use Rattle.ascii_row.specs.Rows.{checkLine, fieldSample, fieldStatus, rowOf}
-use Rattle.ascii_row.proofs.FieldLaws.{told-sample}
+use Rattle.ascii_row.proofs.FieldLaws.{told-missing, told-sample}
 use Rattle.ascii_row.proofs.LineLaws.{line-is, sample-at, status-at}
-use Rattle.ascii_plain.specs.Rows.{sampleChars, statusChar, lineOf, textOf}
+use Rattle.ascii_plain.specs.Rows.{missingChars, sampleChars, statusChar, lineOf, textOf}
 use Rattle.ascii_plain.specs.Inner.{textLength}
-use Rattle.ascii_plain.proofs.LengthLaws.{decimal-short, plain-short, chars-missing, chars-there, text-line, line-most}
+use Rattle.ascii_plain.proofs.LengthLaws.{decimal-short, plain-short, missing-none, missing-mark, chars-missing, chars-there, text-line, line-most}
 use Rattle.ascii_plain.proofs.LineLaws.{line-bytes-plain, fields-line, number-field, time-field, sample-field, status-field}
 use Rattle.ascii_file.specs.Files.{scanRow, takeRow, lineTaken, firstLine}
 
@@ -51,11 +51,19 @@ pub time-back : (v : ℕ) → v < 2 ^ 32 → readTimestamp (decimal v) ≡ count
 unfolding readTimestamp
 time-back v h = rw (count-decimal 1 13 v (length-decimal v) (omega (arith, decimal-short v h)), le-leb v latestTime (omega arith))
 
+-- the characters of a missing sample are a field of one
+missing-back : (l : Layout) → isMissingField l (missingChars l) ≡ true
+missing-back l =
+    told-missing l (missingChars l)
+    (on-test (marked l)
+    (λ t. inr (t, rw (missing-mark l t) (whole-plain (pos 99999) (omega (arith, plain-short (pos 99999) (omega arith))))))
+    (λ t. inl (t, missing-none l t)))
+
 pub sample-back : (l : Layout) (z : ℤ) → fits l z ≡ true → readSample l (sampleChars l z) ≡ whole.Is z
 sample-back l z f =
     told-sample l (sampleChars l z) z
     (on-test (isMissing z)
-    (λ t. inl (is-missing z t, chars-missing l z t))
+    (λ t. inl (is-missing z t, rw (chars-missing l z t) (missing-back l)))
     (λ t. inr (rw (chars-there l z t) (whole-plain z (omega (arith, plain-short z (fits-small l z f)))), fits-there l z f t)))
 
 pub status-back : (b : Bool) → (isStatus (statusChar b ∷ []) ≡ true) × (statusIn (statusChar b ∷ []) ≡ b)

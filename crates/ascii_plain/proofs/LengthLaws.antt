@@ -1,6 +1,7 @@
 -- Laws of the lengths in a plain row.
 --     decimal-short, plain-short                   a number of 32 bits has at most 10 characters, and with its sign at most 11
---     chars-missing, chars-there, chars-short      the characters of a sample: none where it is missing, else its number's, and so at most 11
+--     missing-none, missing-mark, missing-either   the characters of a missing sample: none, or in a marked text those of the mark's number
+--     chars-missing, chars-there, chars-short      the characters of a sample: those where it is missing, else its number's, and so at most 11
 --     samples-long                                 the samples have their length
 --     samples-next, samples-within                 one sample more, and sample i within all
 --     samples-most                                 a samples take at most 12 * a characters
@@ -21,15 +22,15 @@ use lib.Signed.{mag}
 use Rattle.ground.specs.Tables.{cat}
 use Rattle.ground.proofs.Cases.{on-test, lt-or-ge}
 use Rattle.ground.proofs.Tables.{length-cat}
-use Rattle.numerals.specs.Decimals.{decimal, plain}
+use Rattle.numerals.specs.Decimals.{decimalIn, decimal, plain}
 use Rattle.numerals.proofs.PlainLaws.{length-decimal-le}
 use Rattle.numerals.proofs.WholeLaws.{plain-pos, plain-neg}
 use Rattle.model.specs.declared.Layout.{Layout}
 use Rattle.model.specs.declared.Row.{Row}
 use Rattle.model.specs.Layouts.{Sized}
-use Rattle.model.specs.Samples.{isMissing, fits}
+use Rattle.model.specs.Samples.{isMissing, fits, marked}
 use Rattle.model.proofs.SampleLaws.{fits-small}
-use Rattle.ascii_plain.specs.Rows.{headText, sampleChars, sampleText, samplesText, statusText, statusesText, lineOf, textOf}
+use Rattle.ascii_plain.specs.Rows.{headText, missingChars, sampleChars, sampleText, samplesText, statusText, statusesText, lineOf, textOf}
 use Rattle.ascii_plain.specs.Inner.{headLength, samplesLength, lengthBy, textLength}
 
 pub decimal-short : (v : ℕ) → v < 2 ^ 32 → length (decimal v) ≤ 10
@@ -39,8 +40,20 @@ pub plain-short : (z : ℤ) → mag z < 2 ^ 31 → length (plain z) ≤ 11
 plain-short (pos v) h = rw (plain-pos v) (omega (arith, decimal-short v (omega arith)))
 plain-short (negsuc v) h = rw (plain-neg v) (omega (arith, decimal-short (suc v) (omega arith)))
 
+module _ (l : Layout) where
+  pub missing-none : marked l ≡ false → missingChars l ≡ []
+  missing-none t = rw t
+
+  pub missing-mark : marked l ≡ true → missingChars l ≡ plain (pos 99999)
+  unfolding decimalIn decimal plain
+  missing-mark t = rw t
+
+  -- what is true of both is true of them
+  pub missing-either : (P : List ℕ → Type 0) → P [] → P (plain (pos 99999)) → P (missingChars l)
+  missing-either P none mark = on-test (marked l) (λ t. rw (missing-mark t) mark) (λ t. rw (missing-none t) none)
+
 module _ (l : Layout) (z : ℤ) where
-  pub chars-missing : isMissing z ≡ true → sampleChars l z ≡ []
+  pub chars-missing : isMissing z ≡ true → sampleChars l z ≡ missingChars l
   unfolding sampleChars
   chars-missing t = rw t
 
@@ -51,7 +64,7 @@ module _ (l : Layout) (z : ℤ) where
   pub chars-short : mag z < 2 ^ 31 → length (sampleChars l z) ≤ 11
   chars-short h =
       on-test (isMissing z)
-      (λ t. rw (chars-missing t) (omega arith))
+      (λ t. rw (chars-missing t) (missing-either l (λ x. length x ≤ 11) (omega arith) (plain-short (pos 99999) (omega arith))))
       (λ t. rw (chars-there t) (plain-short z h))
 
 module _ (l : Layout) (zs : List ℤ) where

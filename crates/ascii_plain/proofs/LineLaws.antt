@@ -32,46 +32,46 @@ use Rattle.model.specs.declared.Layout.{Layout}
 use Rattle.model.specs.declared.Row.{Row}
 use Rattle.model.specs.Samples.{isMissing}
 use Rattle.ascii_plain.specs.Rows.{sampleChars, sampleText, samplesText, statusChar, statusText, statusesText, lineOf, textOf}
-use Rattle.ascii_plain.proofs.LengthLaws.{chars-missing, chars-there}
+use Rattle.ascii_plain.proofs.LengthLaws.{missing-either, chars-missing, chars-there}
 
 -- a minus, a digit, or a byte between the two: no comma, and one that a line may have
-abbrev isMark : ℕ → Bool
-isMark b = leb 45 b && leb b 57
+abbrev isSymbol : ℕ → Bool
+isSymbol b = leb 45 b && leb b 57
 
-mark-bounds : (b : ℕ) → isMark b ≡ true → (45 ≤ b) × (b ≤ 57)
-mark-bounds b h = let s = and-split (leb 45 b) (leb b 57) h in (leb-true 45 b (s .0), leb-true b 57 (s .1))
+symbol-bounds : (b : ℕ) → isSymbol b ≡ true → (45 ≤ b) × (b ≤ 57)
+symbol-bounds b h = let s = and-split (leb 45 b) (leb b 57) h in (leb-true 45 b (s .0), leb-true b 57 (s .1))
 
-decimal-marks : (v : ℕ) → every isMark (decimal v) ≡ true
-decimal-marks v =
-    every-imply isDigit isMark (decimal v)
+decimal-symbols : (v : ℕ) → every isSymbol (decimal v) ≡ true
+decimal-symbols v =
+    every-imply isDigit isSymbol (decimal v)
     (λ b h. let d = digit-bounds b h in and-join (leb 45 b) (leb b 57) (le-leb 45 b (omega arith)) (le-leb b 57 (d .1)))
     (decimal-digits v)
 
-plain-marks : (z : ℤ) → every isMark (plain z) ≡ true
-plain-marks (pos v) = rw (plain-pos v) (decimal-marks v)
-plain-marks (negsuc v) = rw (plain-neg v) (decimal-marks (suc v))
+plain-symbols : (z : ℤ) → every isSymbol (plain z) ≡ true
+plain-symbols (pos v) = rw (plain-pos v) (decimal-symbols v)
+plain-symbols (negsuc v) = rw (plain-neg v) (decimal-symbols (suc v))
 
-chars-marks : (l : Layout) (z : ℤ) → every isMark (sampleChars l z) ≡ true
-chars-marks l z =
+chars-symbols : (l : Layout) (z : ℤ) → every isSymbol (sampleChars l z) ≡ true
+chars-symbols l z =
     on-test (isMissing z)
-    (λ t. rw (chars-missing l z t))
-    (λ t. rw (chars-there l z t) (plain-marks z))
+    (λ t. rw (chars-missing l z t) (missing-either l (λ x. every isSymbol x ≡ true) refl (plain-symbols (pos 99999))))
+    (λ t. rw (chars-there l z t) (plain-symbols z))
 
-status-marks : (b : Bool) → every isMark (statusChar b ∷ []) ≡ true
-status-marks true = refl
-status-marks false = refl
+status-symbols : (b : Bool) → every isSymbol (statusChar b ∷ []) ≡ true
+status-symbols true = refl
+status-symbols false = refl
 
-marks-line : (x : List ℕ) → every isMark x ≡ true → lineBytes x ≡ true
-marks-line x =
-    every-imply isMark (λ b. leb 32 b && leb b 126) x
-    (λ b h. let m = mark-bounds b h in and-join (leb 32 b) (leb b 126) (le-leb 32 b (omega arith)) (le-leb b 126 (omega arith)))
+symbols-line : (x : List ℕ) → every isSymbol x ≡ true → lineBytes x ≡ true
+symbols-line x =
+    every-imply isSymbol (λ b. leb 32 b && leb b 126) x
+    (λ b h. let m = symbol-bounds b h in and-join (leb 32 b) (leb b 126) (le-leb 32 b (omega arith)) (le-leb b 126 (omega arith)))
 
-marks-commas : (x : List ℕ) → every isMark x ≡ true → commas x ≡ 0
-marks-commas [] h = refl
-marks-commas (b ∷ x) h =
-    let s = and-split (isMark b) (every isMark x) h in
-    let m = mark-bounds b (s .0) in
-    rw (ne-eqb b 44 (λ e. omega arith)) (marks-commas x (s .1))
+symbols-commas : (x : List ℕ) → every isSymbol x ≡ true → commas x ≡ 0
+symbols-commas [] h = refl
+symbols-commas (b ∷ x) h =
+    let s = and-split (isSymbol b) (every isSymbol x) h in
+    let m = symbol-bounds b (s .0) in
+    rw (ne-eqb b 44 (λ e. omega arith)) (symbols-commas x (s .1))
 
 module _ (l : Layout) (n : ℕ) (r : Row) where
   -- the fields, counted from 0: number, timestamp, A samples, D statuses
@@ -90,16 +90,16 @@ module _ (l : Layout) (n : ℕ) (r : Row) where
       let e : l .analogs + i - l .analogs ≡ i = omega arith in
       rw (le-ltb (l .analogs + i) (l .analogs) (omega arith), e)
 
-  field-marks : (j : ℕ) → every isMark (fieldText j) ≡ true
-  field-marks zero = decimal-marks n
-  field-marks (suc zero) = decimal-marks (r .time)
-  field-marks (suc (suc i)) =
+  field-symbols : (j : ℕ) → every isSymbol (fieldText j) ≡ true
+  field-symbols zero = decimal-symbols n
+  field-symbols (suc zero) = decimal-symbols (r .time)
+  field-symbols (suc (suc i)) =
       on-test (ltb i (l .analogs))
-      (λ e. rw e (chars-marks l (getD (r .samples) i (pos 0))))
-      (λ e. rw e (status-marks (getD (r .statuses) (i - l .analogs) false)))
+      (λ e. rw e (chars-symbols l (getD (r .samples) i (pos 0))))
+      (λ e. rw e (status-symbols (getD (r .statuses) (i - l .analogs) false)))
 
   pub commas-field : (j : ℕ) → commas (fieldText j) ≡ 0
-  commas-field j = marks-commas (fieldText j) (field-marks j)
+  commas-field j = symbols-commas (fieldText j) (field-symbols j)
 
   -- samples and statuses, each after its comma
   channels : cat (λ i. 44 ∷ fieldText (i + 1 + 1)) (l .analogs + l .statuses)
@@ -124,7 +124,7 @@ module _ (l : Layout) (n : ℕ) (r : Row) where
   unfolding joined
   line-bytes-plain =
       let test : ℕ → Bool = λ b. leb 32 b && leb b 126 in
-      let bytes : (j : ℕ) → lineBytes (fieldText j) ≡ true = λ j. marks-line (fieldText j) (field-marks j) in
+      let bytes : (j : ℕ) → lineBytes (fieldText j) ≡ true = λ j. symbols-line (fieldText j) (field-symbols j) in
       let m = 1 + l .analogs + l .statuses in
       let more = every-cat test (λ i. 44 ∷ fieldText (i + 1)) m (λ i h. bytes (i + 1)) in
       rw as-joined (every-append test (fieldText 0) (cat (λ i. 44 ∷ fieldText (i + 1)) m) (bytes 0) more)

@@ -5,8 +5,10 @@ use Prim.Native.Nat.{ℕ, zero, suc, _+_, _*_}
 use lib.Dec.{eqb}
 use lib.IntN.{ℤ, pos}
 use lib.ListN.{length, getD}
+use Rattle.ground.specs.Choice.{if_then_else_}
 use Rattle.numerals.specs.Decimals.{decimal, isPlain}
 use Rattle.model.specs.declared.Layout.{Layout}
+use Rattle.model.specs.Samples.{marked}
 use Rattle.model.specs.declared.Row.{Row}
 use Rattle.ascii_plain.specs.Rows.{sampleChars}
 
@@ -27,6 +29,6 @@ lengthBy l n time zs = headLength n time + (samplesLength l zs (l .analogs) + (2
 abbrev pub textLength : Layout → ℕ → Row → ℕ
 textLength l n r = lengthBy l n (r .time) (r .samples)
 
--- a sample's field is plain: empty, or a plain whole number
+-- a sample's field is plain: a plain whole number; or empty, but in no marked text
 unfoldable pub isPlainSample : Layout → List ℕ → Bool
-isPlainSample l f = eqb (length f) 0 || isPlain f
+isPlainSample l f = if marked l then isPlain f else (eqb (length f) 0 || isPlain f)

@@ -1,23 +1,28 @@
--- The plain written row: no spaces, no plus, no needless zeros, zero as 0, nothing for a missing sample, CR LF at its end.
+-- The plain written row: no spaces, no plus, no needless zeros, zero as 0, nothing for a missing sample or the mark of the edition, CR LF at its end.
 use mathlib.Core.Bool.{Bool, false}
 use mathlib.Core.List.{List, [], _∷_, _++_}
 use Prim.Native.Nat.{ℕ, _+_}
 use lib.IntN.{ℤ, pos}
 use lib.ListN.{getD}
 use Rattle.ground.specs.Choice.{if_then_else_}
+use Rattle.ground.specs.Quoted.{quoted}
 use Rattle.ground.specs.Tables.{cat}
 use Rattle.numerals.specs.Decimals.{decimal, plain}
 use Rattle.model.specs.declared.Layout.{Layout}
 use Rattle.model.specs.declared.Row.{Row}
-use Rattle.model.specs.Samples.{isMissing}
+use Rattle.model.specs.Samples.{isMissing, marked}
 
 -- number and timestamp
 abbrev pub headText : ℕ → ℕ → List ℕ
 headText n time = decimal n ++ 44 ∷ decimal time
 
--- the characters of a sample in the layout: none for a missing one, in any layout
+-- the characters of a missing sample: none; in a marked text the mark
+abbrev pub missingChars : Layout → List ℕ
+missingChars l = if marked l then quoted "99999" else []
+
+-- the characters of a sample in the layout
 unfoldable pub sampleChars : Layout → ℤ → List ℕ
-sampleChars l z = if isMissing z then [] else plain z
+sampleChars l z = if isMissing z then missingChars l else plain z
 
 -- sample i after its comma
 abbrev pub sampleText : Layout → List ℤ → ℕ → List ℕ

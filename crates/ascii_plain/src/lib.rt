@@ -8,7 +8,7 @@ ghost use Prim.Native.Nat.{_+_, _*_, _≤_};
 ghost use lib.ListN.{length};
 ghost use Rattle.numerals.specs.Decimals.{decimal};
 ghost use Rattle.model.specs.Layouts.{Sized};
-ghost use Rattle.ascii_plain.specs.Rows.{headText, sampleChars, samplesText, statusChar, statusesText, lineOf, textOf};
+ghost use Rattle.ascii_plain.specs.Rows.{headText, missingChars, sampleChars, samplesText, statusChar, statusesText, lineOf, textOf};
 ghost use Rattle.ascii_plain.specs.Inner.{headLength, samplesLength, lengthBy, textLength};
 
 const COMMA: u8 = 44;
@@ -25,6 +25,16 @@ pub fn head_length(n: u32, time: u32) -> usize
     numerals::decimal_length(n as u64) + (1 + numerals::decimal_length(time as u64))
 }
 
+// How many characters a missing sample takes: none, or those of the mark.
+fn missing_length(layout: Layout) -> usize
+    ensures { λ r. ⌜ r ≡ length (missingChars layout) ⌝ }
+{
+    if layout.is_marked() {
+        return numerals::plain_length(Row::MARK);
+    }
+    0
+}
+
 // How many characters a sample and its comma take.
 fn sample_length(layout: Layout, z: i32) -> usize
     ensures { λ r. ⌜ r ≡ 1 + length (sampleChars layout z) ⌝ }
@@ -32,7 +42,7 @@ fn sample_length(layout: Layout, z: i32) -> usize
     if !model::is_missing(z) {
         return 1 + numerals::plain_length(words::widened(z));
     }
-    1
+    1 + missing_length(layout)
 }
 
 // How many characters the samples take, each with its comma: at most 12 a sample.
@@ -92,6 +102,16 @@ fn put_head(n: u32, time: u32, d: &mut [u8])
     put_time(time, &mut d[k..end]);
 }
 
+// A missing sample fills the slice: nothing, or the mark.
+fn put_missing(layout: Layout, d: &mut [u8])
+    requires { ⌜ length (now d) ≡ length (missingChars layout) ⌝ }
+    ensures { λ _. ⌜ now (d .exit) ≡ missingChars layout ⌝ }
+{
+    if layout.is_marked() {
+        numerals::put_plain(d, Row::MARK);
+    }
+}
+
 // A comma and the sample fill the slice.
 fn put_sample(layout: Layout, z: i32, d: &mut [u8])
     requires { ⌜ length (now d) ≡ 1 + length (sampleChars layout z) ⌝ }
@@ -99,6 +119,7 @@ fn put_sample(layout: Layout, z: i32, d: &mut [u8])
 {
     d[0] = COMMA;
     if model::is_missing(z) {
+        put_missing(layout, &mut d[1..]);
         return;
     }
     numerals::put_plain(&mut d[1..], words::widened(z));

@@ -13,7 +13,7 @@ use Rattle.numerals.specs.declared.Whole.the-variants as whole
 use Rattle.numerals.specs.Counts.{readCount, countIn}
 use Rattle.numerals.specs.Wholes.{readWhole}
 use Rattle.model.specs.declared.Layout.{Layout}
-use Rattle.model.specs.Samples.{missing, holds}
+use Rattle.model.specs.Samples.{missing, holds, marked, isMark}
 use Rattle.model.specs.Rows.{latestTime}
 
 -- a count of at most so much; a larger one is bad
@@ -30,9 +30,18 @@ abbrev pub inRange : Layout → Whole → Whole
 inRange l (whole.Is z) = if holds l z then whole.Is z else whole.Form
 inRange l whole.Form = whole.Form
 
--- a sample: an empty field for a missing one; or 1 to 13 characters, an optional sign and digits, within the range
+-- a whole number that marks a missing sample
+abbrev pub isMarkIn : Whole → Bool
+isMarkIn (whole.Is z) = isMark z
+isMarkIn whole.Form = false
+
+-- the field of a missing sample: an empty one; in a marked text a whole number that is the mark, however it is written
+unfoldable pub isMissingField : Layout → List ℕ → Bool
+isMissingField l f = if marked l then isMarkIn (readWhole f) else eqb (length f) 0
+
+-- a sample: the field of a missing one; or 1 to 13 characters, an optional sign and digits, within the range
 unfoldable pub readSample : Layout → List ℕ → Whole
-readSample l f = if eqb (length f) 0 then whole.Is missing else inRange l (readWhole f)
+readSample l f = if isMissingField l f then whole.Is missing else inRange l (readWhole f)
 
 -- a status: exactly 0 or 1
 unfoldable pub isStatus : List ℕ → Bool

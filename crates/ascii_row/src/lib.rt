@@ -7,11 +7,14 @@ use numerals::Count;
 use numerals::Whole;
 ghost use mathlib.Core.Path.{_≡_};
 ghost use mathlib.Core.Bool.{true, false};
-ghost use Prim.Native.Nat.{_+_, _≤_, _<_};
+ghost use mathlib.Core.List.{List, []};
+ghost use Prim.Native.Nat.{ℕ, _+_, _≤_, _<_};
 ghost use lib.IntN.{pos};
 ghost use lib.ListN.{length};
 ghost use Rattle.ground.specs.Tables.{tab, padded};
 ghost use Rattle.text.specs.Fields.{fieldAt};
+ghost use Rattle.numerals.specs.declared.Whole.the-variants as whole;
+ghost use Rattle.numerals.specs.Wholes.{readWhole};
 ghost use Rattle.model.specs.Layouts.{Sized};
 ghost use Rattle.model.specs.Refusals.{answerOf};
 ghost use Rattle.ascii_row.specs.Fields.{readTimestamp, readSample, isStatus, isCount, isWhole, timeIn, sampleIn, statusIn};
@@ -38,20 +41,41 @@ fn read_timestamp(field: &[u8]) -> Count
     }
 }
 
-// A sample; it is missing where the field is empty.
+// What an empty field says: a missing sample, but in no marked text.
+fn empty_sample(layout: Layout) -> Whole
+    ensures { λ r. ⌜ r ≡ readSample layout [] ⌝ }
+{
+    if layout.is_marked() {
+        return Whole::Form;
+    }
+    Whole::Is(MISSING)
+}
+
+// What a field says, by its number: a sample of the layout; or a missing one, where it is the mark of a marked text.
+fn sample_said(layout: Layout, z: i64) -> Whole
+    ensures { λ r. ⌜ ((f : List ℕ) → readWhole f ≡ whole.Is z → r ≡ readSample layout f) ⌝ }
+{
+    if layout.holds(z) {
+        return Whole::Is(z);
+    }
+    if !layout.is_marked() {
+        return Whole::Form;
+    }
+    if model::is_mark(z) {
+        return Whole::Is(MISSING);
+    }
+    Whole::Form
+}
+
+// A sample, whose number is read once; a missing one is an empty field, or in a marked text the mark.
 fn read_sample(layout: Layout, field: &[u8]) -> Whole
     ensures { λ r. ⌜ r ≡ readSample layout (now (field .entry)) ⌝ }
 {
     if field.len() == 0 {
-        return Whole::Is(MISSING);
+        return empty_sample(layout);
     }
     match numerals::read_whole(field) {
-        Whole::Is(z) => {
-            if !layout.holds(z) {
-                return Whole::Form;
-            }
-            Whole::Is(z)
-        }
+        Whole::Is(z) => sample_said(layout, z),
         Whole::Form => Whole::Form,
     }
 }
@@ -216,17 +240,6 @@ fn read_statuses(fields: &[u8], d: &mut [bool])
     }
 }
 
-// The A samples of the fields, and zeros.
-fn samples_of(layout: Layout, fields: &[u8]) -> [i32; 96]
-    requires { ⌜ Sized layout ⌝ }
-    ensures { λ r. ⌜ r ≡ padded (fieldSample layout (now (fields .entry))) (layout .analogs) 96 (pos 0) ⌝ }
-{
-    let a = layout.analogs as usize;
-    let mut out = [0i32; 96];
-    read_samples(layout, fields, &mut out[..a]);
-    out
-}
-
 // The d statuses of the fields, and zeros.
 fn statuses_of(fields: &[u8], d: usize) -> [bool; 256]
     requires { ⌜ d ≤ 256 ⌝ }
@@ -249,7 +262,11 @@ pub fn line_samples(layout: Layout, line: &[u8]) -> [i32; 96]
     requires { ⌜ Sized layout ⌝ }
     ensures { λ r. ⌜ r ≡ rowOf layout (now (line .entry)) .samples ⌝ }
 {
-    samples_of(layout, text::after_fields(line, 2))
+    let a = layout.analogs as usize;
+    let fields = text::after_fields(line, 2);
+    let mut out = [0i32; 96];
+    read_samples(layout, fields, &mut out[..a]);
+    out
 }
 
 // The row that a line says.

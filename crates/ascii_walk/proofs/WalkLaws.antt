@@ -3,14 +3,15 @@
 --     count-clean, whole-clean, fine-clean      what reads as a number, and a field that is fine, is so
 --     status-fine                               a status that is read where it stands is fine there
 --     status-byte                               the byte of a status, as an order
---     empty-there                               an empty field is a sample
+--     empty-there                               an empty field is a sample, where the text is not marked
+--     number-there                              so is a field that is read as a number, by what it says
 --     next-time, next-sample, next-status       so it is the next field
 --     passed-on                                 one field more is passed
 --     passed-status, passed-four                so are one status more, and four
 --     row-walked                                a number, fields that were passed and CR LF are a row
 -- Assumes nothing.
 use mathlib.Core.Path.{_≡_, refl, sym, _∙_}
-use mathlib.Core.Bool.{Bool, true}
+use mathlib.Core.Bool.{Bool, true, false}
 use mathlib.Core.Logic.{inl, inr, ⊎-elim}
 use mathlib.Core.List.{List, [], _∷_, _++_}
 use Prim.Native.Nat.{ℕ, zero, suc, _+_, _-_, _*_, _≤_, _<_}
@@ -19,7 +20,7 @@ use native.Mathlib.Numerals.{add-one}
 use native.Mathlib.Omega.{arith}
 use borrow.Author.Tests.{eq-eqb, eqb-true, ne-eqb, le-leb, leb-true, leb-false}
 use lib.Dec.{eqb, leb}
-use lib.IntN.{ℤ}
+use lib.IntN.{ℤ, pos}
 use lib.ListN.{length, getD, take, drop, take-append-drop}
 use lib.Seq.{take-append-seam, drop-append-add, length-take-le}
 use Rattle.ground.specs.Said.{says}
@@ -37,15 +38,15 @@ use Rattle.numerals.specs.declared.Count.the-variants as count
 use Rattle.numerals.specs.declared.Whole.the-variants as whole
 use Rattle.numerals.specs.Counts.{lengthIn, isDigit, leadingSpaces, digitsFrom, numberOf, readCount}
 use Rattle.numerals.specs.Wholes.{signLength, hasMinus, signedNumber, readWhole}
-use Rattle.numerals.specs.Inner.{CountThere}
+use Rattle.numerals.specs.Inner.{CountThere, WholeThere}
 use Rattle.numerals.proofs.CountLaws.{digit-bounds}
 use Rattle.numerals.proofs.WholeLaws.{from-count, in-length}
 use Rattle.model.specs.declared.Layout.{Layout}
-use Rattle.model.specs.Samples.{missing}
+use Rattle.model.specs.Samples.{missing, marked}
 use Rattle.ascii_row.specs.Fields.{isStatus}
 use Rattle.ascii_row.specs.Rows.{fieldsOf, fieldFine, checkFields, checkNumber, checkLine}
 use Rattle.ascii_walk.specs.Inner.{FieldThere, Next, TimeThere, SampleThere, StatusThere, FourThere, Passed, RowThere}
-use Rattle.ascii_row.proofs.FieldLaws.{SampleTold, time-read, sample-read, sample-fine}
+use Rattle.ascii_row.proofs.FieldLaws.{MissingTold, missing-told, told-missing, SampleTold, time-read, sample-read, sample-fine}
 use Rattle.ascii_row.proofs.LineLaws.{of-time, of-sample, of-status}
 
 pub record Clean (f : List ℕ) : Type 0 where
@@ -116,9 +117,13 @@ status-clean (b ∷ []) e =
     (λ t. let q = eqb-true b 49 (rw t at e) in more b [] (omega arith) (omega arith) (λ r. omega arith) none)
 status-clean (b ∷ c ∷ f) e = record { plain = cc; bytes = cc }
 
--- a sample that is missing is no character
+-- a sample that is missing is no character, or a number
+missing-clean : (l : Layout) (f : List ℕ) → MissingTold l f → Clean f
+missing-clean l f (inl (t, e)) = rw e none
+missing-clean l f (inr (t, e)) = whole-clean f (pos 99999) e
+
 sample-clean : (l : Layout) (f : List ℕ) (z : ℤ) → SampleTold l f z → Clean f
-sample-clean l f z (inl (m, e)) = rw e none
+sample-clean l f z (inl (e, m)) = missing-clean l f (missing-told l f m)
 sample-clean l f z (inr (e, h)) = whole-clean f z e
 
 pub fine-clean : (l : Layout) (k : ℕ) (f : List ℕ) → fieldFine l k f ≡ true → Clean f
@@ -144,12 +149,21 @@ status-byte b h =
     (lt-or-ge b 49)
 
 -- an empty sample, which takes its comma alone
-pub empty-there : (l : Layout) (s : List ℕ) (i j : ℕ) → getD s i 0 ≡ 44 → j ≡ i + 1 → j < length s → SampleThere l s i j
-empty-there l s i j c e w = record {
+pub empty-there : (l : Layout) (s : List ℕ) (i j : ℕ) → marked l ≡ false → getD s i 0 ≡ 44 → j ≡ i + 1 → j < length s → SampleThere l s i j
+empty-there l s i j t c e w = record {
   comma = c;
   past = omega arith;
   within = w;
-  fine = rw (e, part-none (i + 1) s) (sample-fine l [] missing (inl (refl, refl)));
+  fine = rw (e, part-none (i + 1) s) (sample-fine l [] missing (inl (refl, told-missing l [] (inl (t, refl)))));
+}
+
+-- a field that is read as a number, and what it says
+pub number-there : (l : Layout) (s : List ℕ) (i j : ℕ) (z y : ℤ) → getD s i 0 ≡ 44 → WholeThere s (i + 1) j z → SampleTold l (part (i + 1) j s) y → SampleThere l s i j
+number-there l s i j z y c w t = record {
+  comma = c;
+  past = omega (arith, w .past);
+  within = w .within;
+  fine = sample-fine l (part (i + 1) j s) y t;
 }
 
 -- a field of which one test holds, where another says the same of it

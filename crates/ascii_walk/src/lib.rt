@@ -3,7 +3,7 @@
 use ascii_row::LATEST;
 use model::Layout;
 ghost use mathlib.Core.Path.{_≡_};
-ghost use mathlib.Core.Bool.{true, _&&_};
+ghost use mathlib.Core.Bool.{true, false, _&&_};
 ghost use mathlib.Core.List.{[], _∷_};
 ghost use Prim.Native.Nat.{_+_, _*_, _≤_, _<_};
 ghost use lib.Dec.{eqb};
@@ -11,6 +11,7 @@ ghost use lib.ListN.{length};
 ghost use Rattle.numerals.specs.Inner.{CountThere};
 ghost use Rattle.model.specs.declared.Layout.{Layout};
 ghost use Rattle.model.specs.Layouts.{Sized};
+ghost use Rattle.model.specs.Samples.{marked, isMark};
 ghost use Rattle.ascii_row.specs.Fields.{isStatus};
 ghost use Rattle.ascii_walk.specs.Inner.{TimeThere, SampleThere, StatusThere, FourThere, Passed, LineEnd, RowThere};
 
@@ -40,17 +41,33 @@ fn time_end(s: &[u8], at: usize) -> usize
     time.end
 }
 
-// Where an empty field ends that starts at a place; 0 where s ends there.
-fn empty_end(s: &[u8], at: usize) -> usize
-    ensures { λ r. ⌜ (1 ≤ r → (r ≡ at) × (at < length (now (s .entry)))) ⌝ }
+// Where an empty field ends that starts at a place; 0 where s ends there, or its text has none.
+fn empty_end(layout: Layout, s: &[u8], at: usize) -> usize
+    ensures { λ r. ⌜ (1 ≤ r → (r ≡ at) × (at < length (now (s .entry))) × (marked layout ≡ false)) ⌝ }
 {
     if s.len() <= at {
+        return 0;
+    }
+    if layout.is_marked() {
         return 0;
     }
     at
 }
 
-// Where the sample after a comma ends; 0 where none is read. Where no number is read the field is taken as empty: whoever comes next looks at what stands there.
+// Where a number ends that is no sample, where it is the mark of a marked text; 0 where it is not.
+fn mark_end(layout: Layout, z: i64, end: usize) -> usize
+    ensures { λ r. ⌜ (1 ≤ r → (r ≡ end) × (marked layout && isMark z ≡ true)) ⌝ }
+{
+    if !layout.is_marked() {
+        return 0;
+    }
+    if !model::is_mark(z) {
+        return 0;
+    }
+    end
+}
+
+// Where the sample after a comma ends; 0 where none is read. Most numbers are samples of every layout, which is asked first. Where no number is read the field is taken as empty: whoever comes next looks at what stands there.
 fn sample_end(layout: Layout, s: &[u8], at: usize) -> usize
     requires { ⌜ at < length (now s) ⌝ }
     ensures { λ r. ⌜ (1 ≤ r → SampleThere layout (now (s .entry)) at r) ⌝ }
@@ -61,10 +78,13 @@ fn sample_end(layout: Layout, s: &[u8], at: usize) -> usize
     let first = at + 1;
     let sample = numerals::whole_at(s, first);
     if sample.end < 1 {
-        return empty_end(s, first);
+        return empty_end(layout, s, first);
+    }
+    if model::is_short(sample.value) {
+        return sample.end;
     }
     if !layout.holds(sample.value) {
-        return 0;
+        return mark_end(layout, sample.value, sample.end);
     }
     sample.end
 }

@@ -10,6 +10,7 @@ use Rattle.ground.specs.Tables.{part, tab, cat}
 use Rattle.words.specs.Words.{wordOf, wordBytes}
 use Rattle.model.specs.declared.Kind.{Kind}
 use Rattle.model.specs.declared.Kind.the-variants.{Binary, Binary32}
+use Rattle.model.specs.declared.Edition.the-variants.{Y2013}
 use Rattle.model.specs.declared.Layout.{Layout}
 use Rattle.model.specs.Kinds.{widthOf, halfOf}
 use Rattle.model.specs.Rows.{misfit}
@@ -39,9 +40,9 @@ recoded k m b = encoded m (decoded k b)
 unfoldable pub recodedAll : Kind → Kind → ℕ → List ℕ → List ℕ
 recodedAll k m a b = cat (λ i. recoded k m (bytesAt k b i)) a
 
--- a layout of 16 bits with a analog channels
+-- a layout of 16 bits with a analog channels, in either edition
 abbrev pub short : ℕ → Layout
-short a = record { analogs = a; statuses = 0; rows = 1; kind = Binary }
+short a = record { analogs = a; statuses = 0; rows = 1; kind = Binary; edition = Y2013 }
 
 -- a number of 32 bits says what fits in 16
 abbrev pub isShort : ℕ → Bool

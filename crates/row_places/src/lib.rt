@@ -113,10 +113,13 @@ fn up_to(most: i64, z: i64) -> bool
     true
 }
 
-// Whether the place of a sample may hold z.
+// Whether the place of a sample may hold z. Most samples are samples of every layout, which is asked first.
 fn fits_sample(layout: Layout, z: i64) -> bool
     ensures { λ r. ⌜ r ≡ fitsSample layout z ⌝ }
 {
+    if model::is_short(z) {
+        return true;
+    }
     if is_none(z) {
         return true;
     }

@@ -1,9 +1,7 @@
--- `ascii_plain::put_sample` meets its contract: the comma is the first character, and the sample fills the rest; of a missing one there is none.
-use mathlib.Core.Path.{_≡_, refl, sym, ap, _∙_}
-use mathlib.Core.List.{List, [], _∷_}
-use Prim.Native.Nat.{ℕ}
+-- `ascii_plain::put_sample` meets its contract: the comma is the first character, and the sample, or what stands for a missing one, fills the rest.
+use mathlib.Core.Path.{_≡_, sym, ap, _∙_}
 use native.Mathlib.Omega.{arith}
-use lib.ListN.{length, set, length-set, length-drop}
+use lib.ListN.{length-set, length-drop}
 use mir.Syntax.{w32, w64}
 use mir.Val.{toZ, ofZ}
 use mir.ValLaws.{toZ-ofZ}
@@ -13,7 +11,7 @@ use Rattle.ground.proofs.Parts.{put-first}
 use Rattle.words.proofs.MachineLaws.{widened-back}
 use Rattle.model.specs.Samples.{isMissing}
 use Rattle.numerals.specs.Decimals.{plain}
-use Rattle.ascii_plain.specs.Rows.{sampleChars}
+use Rattle.ascii_plain.specs.Rows.{missingChars, sampleChars}
 use Rattle.ascii_plain.proofs.LengthLaws.{chars-missing, chars-there}
 use Rattle.ascii_plain.proofs.put_sample.Statement.{statement}
 use Rattle.ascii_plain.proofs.put_sample.Tie as tie
@@ -28,22 +26,40 @@ tested : (c : tie.After-is-missing) → isMissing (c .before .before .args .z) �
 tested c = sym (c .is-missing .ensures ∙ ap isMissing (toZ-ofZ w32 (c .before .before .args .z) (c .before .before .fits .z)))
 
 -- the characters, by the test
-none : (c : tie.Then1) → sampleChars (c .before .before .before .args .layout) (c .before .before .before .args .z) ≡ []
+none : (c : tie.Then1) → sampleChars (c .before .before .before .args .layout) (c .before .before .before .args .z) ≡ missingChars (c .before .before .before .args .layout)
 none c = chars-missing (c .before .before .before .args .layout) (c .before .before .before .args .z) (tested (c .before) ∙ c .if1 .taken)
 
 there : (c : tie.Else1) → sampleChars (c .before .before .before .args .layout) (c .before .before .before .args .z) ≡ plain (c .before .before .before .args .z)
 there c = chars-there (c .before .before .before .args .layout) (c .before .before .before .args .z) (tested (c .before) ∙ c .if1 .left)
 
-put-one : (d : List ℕ) (a : ℕ) → length d ≡ 1 → set d 0 a ≡ a ∷ []
-put-one [] a h = absurd (omega arith)
-put-one (x ∷ []) a h = refl
-put-one (x ∷ y ∷ d) a h = absurd (omega arith)
+sub-put-missing : tie.Need-sub-put-missing
+sub-put-missing c = simp length-set (omega arith)
+
+part-put-missing-start : tie.Need-part-put-missing-start
+part-put-missing-start c = simp length-set (omega arith)
+
+part-put-missing-end : tie.Need-part-put-missing-end
+part-put-missing-end c = search needs
+
+put-missing-requires : tie.Need-put-missing-requires
+put-missing-requires c κs = rw (rest, length-drop, length-set, ← none (c .before)) (omega (arith, c .before .before .before .before .pre))
+
+-- what fills the rest where the sample is missing
+abbrev missing-from : tie.After-slice-known2 → tie.Start
+missing-from c = c .before .before .before .before .before .before .before
+
+filled-missing : (c : tie.After-slice-known2) → c .before .before .put-missing .last .1 .0 ≡ sampleChars (missing-from c .args .layout) (missing-from c .args .z)
+filled-missing c = c .before .before .put-missing .ensures ∙ sym (none (c .before .before .before .before))
 
 same-length : tie.Need-same-length
-same-length c = length-set (c .before .before .before .args .d .now) 0 44
+same-length c =
+    let s = missing-from c in
+    rw (put-first (s .args .d .now) (c .before .before .put-missing .last .1 .0) 44 (omega (arith, s .pre)), filled-missing c) (omega (arith, s .pre))
 
 returns : tie.Need-returns
-returns c = rw (none c) (put-one (c .before .before .before .args .d .now) 44 (c .before .before .before .pre ∙ rw (none c)))
+returns c =
+    let s = missing-from c in
+    put-first (s .args .d .now) (c .before .before .put-missing .last .1 .0) 44 (omega (arith, s .pre)) ∙ rw (filled-missing c)
 
 sub-put-plain : tie.Need-sub-put-plain
 sub-put-plain c = simp length-set (omega arith)
@@ -65,14 +81,21 @@ put-plain-requires : tie.Need-put-plain-requires
 put-plain-requires c κs = rw (rest, length-drop, length-set, back c, ← there (c .before .before)) (omega (arith, c .before .before .before .before .before .pre))
 
 -- what fills the rest
-filled : (c : tie.After-slice-known2) → c .before .before .put-plain .last .0 ≡ sampleChars (c .before .before .before .before .before .before .before .before .args .layout) (c .before .before .before .before .before .before .before .before .args .z)
+abbrev plain-from : tie.After-slice-known3 → tie.Start
+plain-from c = c .before .before .before .before .before .before .before .before
+
+filled : (c : tie.After-slice-known3) → c .before .before .put-plain .last .0 ≡ sampleChars (plain-from c .args .layout) (plain-from c .args .z)
 filled c = c .before .before .put-plain .ensures ∙ ap plain (back (c .before .before .before)) ∙ sym (there (c .before .before .before .before .before))
 
 same-length-2 : tie.Need-same-length-2
-same-length-2 c = rw (put-first (c .before .before .before .before .before .before .before .before .args .d .now) (c .before .before .put-plain .last .0) 44 (omega (arith, c .before .before .before .before .before .before .before .before .pre)), filled c) (omega (arith, c .before .before .before .before .before .before .before .before .pre))
+same-length-2 c =
+    let s = plain-from c in
+    rw (put-first (s .args .d .now) (c .before .before .put-plain .last .0) 44 (omega (arith, s .pre)), filled c) (omega (arith, s .pre))
 
 returns-2 : tie.Need-returns-2
-returns-2 c = put-first (c .before .before .before .before .before .before .before .before .args .d .now) (c .before .before .put-plain .last .0) 44 (omega (arith, c .before .before .before .before .before .before .before .before .pre)) ∙ rw (filled c)
+returns-2 c =
+    let s = plain-from c in
+    put-first (s .args .d .now) (c .before .before .put-plain .last .0) 44 (omega (arith, s .pre)) ∙ rw (filled c)
 
 pub put-sample-spec : {M : Type 1} → statement M
 put-sample-spec =
@@ -80,6 +103,10 @@ put-sample-spec =
     (tie.spec
     slice-write-d
     is-missing-requires
+    sub-put-missing
+    part-put-missing-start
+    part-put-missing-end
+    put-missing-requires
     same-length
     returns
     sub-put-plain

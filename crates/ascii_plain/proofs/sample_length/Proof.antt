@@ -1,4 +1,4 @@
--- `ascii_plain::sample_length` meets its contract: a sample has at most 11 characters, and a missing one none.
+-- `ascii_plain::sample_length` meets its contract: a sample has at most 11 characters, and so has a missing one.
 use mathlib.Core.Path.{_≡_, sym, ap, _∙_}
 use native.Mathlib.Omega.{arith}
 use borrow.Author.Needs.{needs}
@@ -7,9 +7,9 @@ use lib.ListN.{length}
 use mir.Syntax.{w32}
 use mir.ValLaws.{toZ-ofZ}
 use Rattle.words.proofs.MachineLaws.{widened-back}
-use Rattle.numerals.specs.Decimals.{plain}
 use Rattle.model.specs.Samples.{isMissing}
-use Rattle.ascii_plain.proofs.LengthLaws.{plain-short, chars-missing, chars-there}
+use Rattle.ascii_plain.specs.Rows.{sampleChars}
+use Rattle.ascii_plain.proofs.LengthLaws.{chars-missing, chars-there, chars-short}
 use Rattle.ascii_plain.proofs.sample_length.Statement.{statement}
 use Rattle.ascii_plain.proofs.sample_length.Tie as tie
 
@@ -25,21 +25,40 @@ widened-requires c κs = search needs
 plain-length-requires : tie.Need-plain-length-requires
 plain-length-requires c κs = search needs
 
-long : (c : tie.After-plain-length) → c .plain-length .result ≡ length (plain (c .before .before .before .before .args .z))
-long c = c .plain-length .ensures ∙ rw (widened-back (c .before .before .before .before .args .z) (c .before .widened .result) (c .before .before .before .before .fits .z) (c .before .widened .ensures))
+-- the length of the sample, by the test
+there : (c : tie.After-plain-length) → c .plain-length .result ≡ length (sampleChars (c .before .before .before .before .args .layout) (c .before .before .before .before .args .z))
+there c =
+    let test = c .before .before .before in
+    let s = test .before in
+    c .plain-length .ensures
+    ∙ rw (
+      widened-back (s .args .z) (c .before .widened .result) (s .fits .z) (c .before .widened .ensures),
+      chars-there (s .args .layout) (s .args .z) (tested test ∙ not-true (test .is-missing .result) (c .before .before .if1 .taken)),
+    )
+
+none : (c : tie.After-missing-length) → c .missing-length .result ≡ length (sampleChars (c .before .before .before .args .layout) (c .before .before .before .args .z))
+none c =
+    let test = c .before .before in
+    let s = test .before in
+    c .missing-length .ensures
+    ∙ rw (chars-missing (s .args .layout) (s .args .z) (tested test ∙ not-false (test .is-missing .result) (c .before .if1 .left)))
 
 add-result : tie.Need-add-result
-add-result c = omega (arith, long c, plain-short (c .before .before .before .before .args .z) (c .before .before .before .before .fits .z .sfits))
+add-result c =
+    let s = c .before .before .before .before in
+    omega (arith, there c, chars-short (s .args .layout) (s .args .z) (s .fits .z .sfits))
 
 returns : tie.Need-returns
-returns c =
-    let test = c .before .before .before in
-    rw (long c, chars-there (c .before .before .before .before .args .layout) (c .before .before .before .before .args .z) (tested test ∙ not-true (test .is-missing .result) (c .before .before .if1 .taken)))
+returns c = rw (there c)
+
+missing-length-requires : tie.Need-missing-length-requires
+missing-length-requires c κs = search needs
+
+add-result-2 : tie.Need-add-result-2
+add-result-2 c = omega (arith, none c, chars-short (c .before .before .before .args .layout) (c .before .before .before .args .z) (c .before .before .before .fits .z .sfits))
 
 returns-2 : tie.Need-returns-2
-returns-2 c =
-    let test = c .before in
-    rw (chars-missing (c .before .before .args .layout) (c .before .before .args .z) (tested test ∙ not-false (test .is-missing .result) (c .if1 .left)))
+returns-2 c = rw (none c)
 
 pub sample-length-spec : {M : Type 1} → statement M
 sample-length-spec =
@@ -50,4 +69,6 @@ sample-length-spec =
     plain-length-requires
     add-result
     returns
+    missing-length-requires
+    add-result-2
     returns-2)

@@ -2,20 +2,23 @@
 --     rates-said, rate-said, quality-said      how large and how small: a last row is a row
 --     date-told, time-told                     where a date and a time are said
 --     date-said                                the date and the time are of the calendar
+--     kind-told, kind-said                     where a kind is said; it is one of the edition's
 --     rates-le, rate-le, quality-le            how large with the zeros beside a refusal
 --     date-valid                               the date and time of a date line that is fine
 -- Assumes nothing.
-use mathlib.Core.Path.{_≡_, refl}
+use mathlib.Core.Path.{_≡_, refl, ap}
 use mathlib.Core.Bool.{Bool, true}
 use mathlib.Core.List.{List}
 use Prim.Native.Nat.{ℕ, _≤_}
 use native.Mathlib.Omega.{arith}
 use lib.Dec.{ltb, eqb}
 use Rattle.ground.specs.Said.{Said, says, refuses}
-use Rattle.ground.proofs.Cases.{clash}
+use Rattle.ground.proofs.Cases.{on-test, clash}
 use Rattle.ground.proofs.SaidLaws.{must-told, bind-told}
 use Rattle.text.specs.Fields.{fieldCount, fieldAt}
-use Rattle.fields.specs.Fields.{readCountIn, readQuality, readLeap}
+use Rattle.fields.specs.declared.KindField.{KindField}
+use Rattle.fields.specs.declared.KindField.the-variants as kind
+use Rattle.fields.specs.Fields.{readCountIn, readQuality, readLeap, readKind}
 use Rattle.clock.specs.declared.Date.{Date}
 use Rattle.clock.specs.declared.Time.{Time}
 use Rattle.clock.specs.declared.DateField.{DateField}
@@ -26,12 +29,15 @@ use Rattle.clock.specs.Dates.{validDate, readDate}
 use Rattle.clock.specs.Times.{validTime, readTime}
 use Rattle.clock.proofs.DateLaws.{read-date-valid}
 use Rattle.clock.proofs.TimeLaws.{read-time-valid}
+use Rattle.model.specs.declared.Kind.{Kind}
+use Rattle.model.specs.declared.Edition.{Edition}
+use Rattle.model.specs.Editions.{hasKind}
 use Rattle.line_fields.specs.declared.Fault.{Fault}
 use Rattle.line_fields.specs.Faults.{rateFault}
 use Rattle.line_fields.specs.Checks.{fault, value}
 use Rattle.line_fields.proofs.PlaceLaws.{Ruled, fault-numbered}
 use Rattle.line_fields.proofs.ValueLaws.{value-le, value-ge, quality-small, leap-small, number-told}
-use Rattle.config_lines.specs.Lines.{dateAt, timeAt, ratesLine, rateLine, dateLine, qualityLine}
+use Rattle.config_lines.specs.Lines.{dateAt, timeAt, ofEdition, kindAt, ratesLine, rateLine, dateLine, kindLine, qualityLine}
 use Rattle.config_lines.specs.Answers.{countedOf, datedOf, qualityOf}
 use Rattle.config_lines.specs.Inner.{Calendar}
 use Rattle.config_lines.proofs.PlaceLaws.{date-line-ruled}
@@ -91,6 +97,18 @@ date-said l v e =
       read-date-valid (fieldAt 1 l) (d .0) (date-told 1 (readDate (fieldAt 1 l)) (d .0) (d .1)),
       read-time-valid (fieldAt 2 l) (t .0) (time-told 2 (readTime (fieldAt 2 l)) (t .0) (t .1)),
     )
+
+pub kind-told : (e : Edition) (n : ℕ) (f : KindField) (k : Kind) → kindAt n (ofEdition e f) ≡ says k → (f ≡ kind.Is k) × (hasKind e k ≡ true)
+kind-told e n (kind.Is x) k =
+    on-test (hasKind e x)
+    (λ t. rw t (λ q. let w : x ≡ k = cc in (ap (λ (y : Kind). kind.Is y) w, rw (← w) t)))
+    (λ t. rw t (λ q. clash (cc)))
+kind-told e n kind.Form k = λ q. clash (cc)
+kind-told e n kind.Range k = λ q. clash (cc)
+
+pub kind-said : (e : Edition) (l : List ℕ) (k : Kind) → kindLine e l ≡ says k → hasKind e k ≡ true
+unfolding kindLine
+kind-said e l k q = let f = must-told (eqb (fieldCount l) 1) (fault 4 0) _ k q in kind-told e 1 (readKind (fieldAt 1 l)) k (f .1) .1
 
 -- With the zeros beside a refusal
 count-small : (m : ℕ) (x : Said Fault ℕ) → ((v : ℕ) → x ≡ says v → v ≤ m) → countedOf x .value ≤ m

@@ -7,9 +7,11 @@ use Prim.Native.Nat.{ℕ, _≤_}
 use lib.Dec.{lit≤, ltb}
 use Rattle.ground.specs.Said.{must}
 use Rattle.text.specs.Fields.{fieldAt}
+use Rattle.numerals.specs.declared.Count.{Count}
+use Rattle.numerals.specs.declared.Count.the-variants as count
 use Rattle.fields.specs.declared.KindField.{KindField}
 use Rattle.fields.specs.declared.KindField.the-variants as kind
-use Rattle.fields.specs.Fields.{readCountIn, readQuality, readLeap, readKind}
+use Rattle.fields.specs.Fields.{readCountIn, readYear, readQuality, readLeap, readKind}
 use Rattle.clock.specs.declared.DateField.{DateField}
 use Rattle.clock.specs.declared.DateField.the-variants as date
 use Rattle.clock.specs.declared.TimeField.{TimeField}
@@ -19,14 +21,26 @@ use Rattle.clock.specs.Times.{readTime}
 use Rattle.codes.specs.declared.Code.{Code}
 use Rattle.codes.specs.declared.Code.the-variants as code
 use Rattle.codes.specs.Codes.{readCode, readLocalCode}
-use Rattle.line_fields.specs.Faults.{textFault, yearFault, frequencyFault, aboveFault, rateFault}
+use Rattle.model.specs.declared.Edition.{Edition}
+use Rattle.model.specs.declared.EditionNo.{EditionNo}
+use Rattle.model.specs.declared.EditionNo.the-variants as edition
+use Rattle.model.specs.Editions.{editionOf}
+use Rattle.line_fields.specs.Faults.{textFault, frequencyFault, aboveFault, rateFault}
 use Rattle.line_fields.specs.Checks.{fault, hasFields, faultless, value}
-use Rattle.line_fields.proofs.PlaceLaws.{form, range, Ruled, text-check, year-check, frequency-check, above-check, rate-check}
+use Rattle.line_fields.proofs.PlaceLaws.{form, range, year, Ruled, text-check, frequency-check, above-check, rate-check}
 use Rattle.line_fields.proofs.PlaceLaws.{has-fields-ruled, then-ruled, bind-ruled, faultless-ruled, agrees-ruled, number-ruled}
-use Rattle.config_lines.specs.Lines.{dateAt, timeAt, kindAt, codeAt, localAt, stationLine, frequencyLine, ratesLine, rateLine, dateLine, kindLine, multiplierLine, codesLine, qualityLine}
+use Rattle.config_lines.specs.Lines.{editionAt, yearAt, dateAt, timeAt, ofEdition, kindAt, codeAt, localAt, stationLine, frequencyLine, ratesLine, rateLine, dateLine, kindLine, multiplierLine, codesLine, qualityLine}
 
 -- field k, from the first on
 module _ (k : ℕ) (h : 1 ≤ k) where
+  edition-ruled : (v : EditionNo) → Ruled (editionAt k v)
+  edition-ruled (edition.Is e) = tt
+  edition-ruled edition.None = year k h
+
+  year-ruled : (v : Count) → Ruled (yearAt k v)
+  year-ruled (count.Is y) = edition-ruled (editionOf y)
+  year-ruled count.Form = form k h
+
   date-ruled : (v : DateField) → Ruled (dateAt k v)
   date-ruled (date.Is x) = tt
   date-ruled date.Form = form k h
@@ -61,7 +75,7 @@ station-ruled l =
     then-ruled (hasFields 3 l) _ (has-fields-ruled 3 l)
     (then-ruled (faultless 1 (textFault 0 64) l) _ (faultless-ruled 1 (lit≤ tt) (textFault 0 64) l (text-check 0 64))
     (then-ruled (faultless 2 (textFault 0 64) l) _ (faultless-ruled 2 (lit≤ tt) (textFault 0 64) l (text-check 0 64))
-    (faultless-ruled 3 (lit≤ tt) yearFault l year-check)))
+    (year-ruled 3 (lit≤ tt) (readYear (fieldAt 3 l)))))
 
 pub frequency-ruled : (l : List ℕ) → Ruled (frequencyLine l)
 unfolding frequencyLine
@@ -86,9 +100,9 @@ date-line-ruled l =
     (bind-ruled (dateAt 1 (readDate (fieldAt 1 l))) _ (date-ruled 1 (lit≤ tt) (readDate (fieldAt 1 l))) (λ d.
     bind-ruled (timeAt 2 (readTime (fieldAt 2 l))) _ (time-ruled 2 (lit≤ tt) (readTime (fieldAt 2 l))) (λ t. tt)))
 
-pub kind-line-ruled : (l : List ℕ) → Ruled (kindLine l)
+pub kind-line-ruled : (e : Edition) (l : List ℕ) → Ruled (kindLine e l)
 unfolding kindLine
-kind-line-ruled l = then-ruled (hasFields 1 l) _ (has-fields-ruled 1 l) (kind-ruled 1 (lit≤ tt) (readKind (fieldAt 1 l)))
+kind-line-ruled e l = then-ruled (hasFields 1 l) _ (has-fields-ruled 1 l) (kind-ruled 1 (lit≤ tt) (ofEdition e (readKind (fieldAt 1 l))))
 
 pub multiplier-ruled : (l : List ℕ) → Ruled (multiplierLine l)
 unfolding multiplierLine

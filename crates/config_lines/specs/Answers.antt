@@ -7,13 +7,21 @@ use Rattle.clock.specs.declared.Date.{Date}
 use Rattle.clock.specs.declared.Time.{Time}
 use Rattle.model.specs.declared.Kind.{Kind}
 use Rattle.model.specs.declared.Kind.the-variants.{Ascii}
+use Rattle.model.specs.declared.Edition.{Edition}
+use Rattle.model.specs.declared.Edition.the-variants.{Y2013}
 use Rattle.line_fields.specs.declared.Fault.{Fault}
 use Rattle.line_fields.specs.Checks.{fault}
+use Rattle.config_lines.specs.declared.Station.{Station}
 use Rattle.config_lines.specs.declared.Counted.{Counted}
 use Rattle.config_lines.specs.declared.Dated.{Dated}
 use Rattle.config_lines.specs.declared.Kinded.{Kinded}
 use Rattle.config_lines.specs.declared.Coded.{Coded}
 use Rattle.config_lines.specs.declared.Quality.{Quality}
+
+-- the edition, 2013 beside a refusal
+abbrev pub stationOf : Said Fault Edition → Station
+stationOf (says e) = record { fault = fault 0 0; edition = e }
+stationOf (refuses f) = record { fault = f; edition = Y2013 }
 
 -- the number of rates, or a last row
 abbrev pub countedOf : Said Fault ℕ → Counted

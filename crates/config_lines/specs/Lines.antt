@@ -4,11 +4,14 @@ use mathlib.Core.List.{List}
 use Prim.Native.Nat.{ℕ}
 use lib.Dec.{ltb}
 use lib.IntN.{ℤ, pos}
+use Rattle.ground.specs.Choice.{if_then_else_}
 use Rattle.ground.specs.Said.{Said, says, refuses, _>>=_, _>>_, must}
 use Rattle.text.specs.Fields.{fieldAt}
+use Rattle.numerals.specs.declared.Count.{Count}
+use Rattle.numerals.specs.declared.Count.the-variants as count
 use Rattle.fields.specs.declared.KindField.{KindField}
 use Rattle.fields.specs.declared.KindField.the-variants as kind
-use Rattle.fields.specs.Fields.{readCountIn, readQuality, readLeap, readKind}
+use Rattle.fields.specs.Fields.{readCountIn, readYear, readQuality, readLeap, readKind}
 use Rattle.clock.specs.declared.Date.{Date}
 use Rattle.clock.specs.declared.DateField.{DateField}
 use Rattle.clock.specs.declared.DateField.the-variants as date
@@ -21,9 +24,23 @@ use Rattle.codes.specs.declared.Code.{Code}
 use Rattle.codes.specs.declared.Code.the-variants as code
 use Rattle.codes.specs.Codes.{readCode, readLocalCode}
 use Rattle.model.specs.declared.Kind.{Kind}
+use Rattle.model.specs.declared.Edition.{Edition}
+use Rattle.model.specs.declared.EditionNo.{EditionNo}
+use Rattle.model.specs.declared.EditionNo.the-variants as edition
+use Rattle.model.specs.Editions.{editionOf, hasKind}
 use Rattle.line_fields.specs.declared.Fault.{Fault}
-use Rattle.line_fields.specs.Faults.{textFault, yearFault, frequencyFault, aboveFault, rateFault}
+use Rattle.line_fields.specs.Faults.{textFault, frequencyFault, aboveFault, rateFault}
 use Rattle.line_fields.specs.Checks.{fault, hasFields, faultless, value}
+
+-- the edition of the year in field k: 8 for a year that is none's
+abbrev pub editionAt : ℕ → EditionNo → Said Fault Edition
+editionAt k (edition.Is e) = says e
+editionAt k edition.None = refuses (fault 8 k)
+
+-- the edition by its year: 5 for its form
+abbrev pub yearAt : ℕ → Count → Said Fault Edition
+yearAt k (count.Is y) = editionAt k (editionOf y)
+yearAt k count.Form = refuses (fault 5 k)
 
 -- What was read in field k: 5 for its form, 6 for a value that is not allowed
 -- a date
@@ -37,6 +54,12 @@ abbrev pub timeAt : ℕ → TimeField → Said Fault Time
 timeAt k (time.Is t) = says t
 timeAt k time.Form = refuses (fault 5 k)
 timeAt k time.Range = refuses (fault 6 k)
+
+-- a kind that the edition has; another is not allowed
+abbrev pub ofEdition : Edition → KindField → KindField
+ofEdition e (kind.Is x) = if hasKind e x then kind.Is x else kind.Range
+ofEdition e kind.Form = kind.Form
+ofEdition e kind.Range = kind.Range
 
 -- a kind
 abbrev pub kindAt : ℕ → KindField → Said Fault Kind
@@ -58,13 +81,13 @@ localAt k code.X = says (true, pos 0)
 localAt k code.Form = refuses (fault 5 k)
 localAt k code.Range = refuses (fault 6 k)
 
--- station, device, year
-unfoldable pub stationLine : List ℕ → Said Fault (Unit {0})
+-- station, device, year, which says the edition
+unfoldable pub stationLine : List ℕ → Said Fault Edition
 stationLine l = do
   hasFields 3 l
   faultless 1 (textFault 0 64) l
   faultless 2 (textFault 0 64) l
-  faultless 3 yearFault l
+  yearAt 3 (readYear (fieldAt 3 l))
 
 -- line frequency: empty or a real
 unfoldable pub frequencyLine : List ℕ → Said Fault (Unit {0})
@@ -95,11 +118,11 @@ dateLine l = do
   t ← timeAt 2 (readTime (fieldAt 2 l))
   says (d, t)
 
--- the kind
-unfoldable pub kindLine : List ℕ → Said Fault Kind
-kindLine l = do
+-- the kind, which is one of the edition's
+unfoldable pub kindLine : Edition → List ℕ → Said Fault Kind
+kindLine e l = do
   hasFields 1 l
-  kindAt 1 (readKind (fieldAt 1 l))
+  kindAt 1 (ofEdition e (readKind (fieldAt 1 l)))
 
 -- the time multiplier: a real above zero
 unfoldable pub multiplierLine : List ℕ → Said Fault (Unit {0})

@@ -13,13 +13,22 @@ use line_fields::frequency_fault;
 use line_fields::rate_fault;
 use line_fields::text_fault;
 use line_fields::value_of;
-use line_fields::year_fault;
+use model::Edition;
+use model::EditionNo;
 use model::Kind;
+use numerals::Count;
 ghost use mathlib.Core.Path.{_≡_};
+ghost use Rattle.model.specs.Editions.{editionOf};
+ghost use Rattle.fields.specs.Fields.{readYear};
 ghost use Rattle.line_fields.specs.Answers.{faultOf};
-ghost use Rattle.config_lines.specs.Lines.{stationLine, frequencyLine, ratesLine, rateLine, dateLine, kindLine, multiplierLine, codesLine, qualityLine};
-ghost use Rattle.config_lines.specs.Answers.{countedOf, noDate, noTime, datedOf, kindedOf, codedOf, qualityOf};
+ghost use Rattle.config_lines.specs.Lines.{editionAt, yearAt, stationLine, frequencyLine, ratesLine, rateLine, dateLine, kindLine, multiplierLine, codesLine, qualityLine, ofEdition, kindAt};
+ghost use Rattle.config_lines.specs.Answers.{stationOf, countedOf, noDate, noTime, datedOf, kindedOf, codedOf, qualityOf};
 ghost use Rattle.config_lines.specs.Inner.{withTime, withLocal};
+
+pub struct Station {
+    pub fault: Fault,
+    pub edition: Edition,
+}
 
 pub struct Counted {
     pub fault: Fault,
@@ -50,26 +59,51 @@ pub struct Quality {
     pub leap: u64,
 }
 
+fn station_said(number: u32, field: u32, edition: Edition) -> Station
+    ensures { λ r. ⌜ r ≡ record { fault = record { number = number; field = field }; edition = edition } ⌝ }
+{
+    Station {
+        fault: at(number, field),
+        edition: edition,
+    }
+}
+
+// The edition of a year.
+fn with_edition(year: u64) -> Station
+    ensures { λ r. ⌜ r ≡ stationOf (editionAt 3 (editionOf year)) ⌝ }
+{
+    match Edition::of(year) {
+        EditionNo::Is(edition) => station_said(0, 0, edition),
+        EditionNo::None => station_said(8, 3, Edition::Y2013),
+    }
+}
+
+// The edition of the year in a field.
+fn with_year(field: &[u8]) -> Station
+    ensures { λ r. ⌜ r ≡ stationOf (yearAt 3 (readYear (now (field .entry)))) ⌝ }
+{
+    match fields::read_year(field) {
+        Count::Form => station_said(5, 3, Edition::Y2013),
+        Count::Is(year) => with_edition(year),
+    }
+}
+
 // Station, device, year.
-pub fn station_line(line: &[u8]) -> Fault
-    ensures { λ r. ⌜ r ≡ faultOf (stationLine (now (line .entry))) ⌝ }
+pub fn station_line(line: &[u8]) -> Station
+    ensures { λ r. ⌜ r ≡ stationOf (stationLine (now (line .entry))) ⌝ }
 {
     if text::field_count(line) != 3 {
-        return at(4, 0);
+        return station_said(4, 0, Edition::Y2013);
     }
     let e1 = text_fault(text::field_at(line, 1), 0, 64);
     if e1 != 0 {
-        return at(e1, 1);
+        return station_said(e1, 1, Edition::Y2013);
     }
     let e2 = text_fault(text::field_at(line, 2), 0, 64);
     if e2 != 0 {
-        return at(e2, 2);
+        return station_said(e2, 2, Edition::Y2013);
     }
-    let e3 = year_fault(text::field_at(line, 3));
-    if e3 != 0 {
-        return at(e3, 3);
-    }
-    at(0, 0)
+    with_year(text::field_at(line, 3))
 }
 
 // The line frequency.
@@ -187,9 +221,19 @@ fn kind_said(number: u32, field: u32, kind: Kind) -> Kinded
     }
 }
 
+// A kind that was read, where the edition has it.
+fn kind_of_edition(edition: Edition, kind: Kind) -> Kinded
+    ensures { λ r. ⌜ r ≡ kindedOf (kindAt 1 (ofEdition edition (KindField.Is kind))) ⌝ }
+{
+    if !edition.has(kind) {
+        return kind_said(6, 1, Kind::Ascii);
+    }
+    kind_said(0, 0, kind)
+}
+
 // The kind's word.
-pub fn kind_line(line: &[u8]) -> Kinded
-    ensures { λ r. ⌜ r ≡ kindedOf (kindLine (now (line .entry))) ⌝ }
+pub fn kind_line(line: &[u8], edition: Edition) -> Kinded
+    ensures { λ r. ⌜ r ≡ kindedOf (kindLine edition (now (line .entry))) ⌝ }
 {
     if text::field_count(line) != 1 {
         return kind_said(4, 0, Kind::Ascii);
@@ -197,7 +241,7 @@ pub fn kind_line(line: &[u8]) -> Kinded
     match fields::read_kind(text::field_at(line, 1)) {
         KindField::Form => kind_said(5, 1, Kind::Ascii),
         KindField::Range => kind_said(6, 1, Kind::Ascii),
-        KindField::Is(kind) => kind_said(0, 0, kind),
+        KindField::Is(kind) => kind_of_edition(edition, kind),
     }
 }
 

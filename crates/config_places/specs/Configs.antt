@@ -5,6 +5,10 @@ use lib.IntN.{ℤ, pos}
 use lib.ListN.{getD}
 use Rattle.ground.specs.Tables.{tab}
 use Rattle.model.specs.Kinds.{kindNumber}
+use Rattle.model.specs.Editions.{yearOf}
+use Rattle.model.specs.Samples.{none}
+use Rattle.config_rules.specs.declared.Last.{Last}
+use Rattle.config_rules.specs.declared.Last.the-variants.{Lines, Absent}
 use Rattle.config_rules.specs.declared.Config.{Config}
 use Rattle.config_rules.specs.declared.Moment.{Moment}
 use Rattle.row_places.specs.Rows.{boolPlace}
@@ -29,19 +33,19 @@ momentPlaces m =
     ∷ pos (m .time .nanosecond)
     ∷ []
 
--- pre-trigger seconds and nanoseconds, kind, time code, whether the local code is x, local code, quality, leap code
-abbrev pub otherPlaces : Config → List ℤ
-otherPlaces c =
-    c .pretrigger .seconds
-    ∷ pos (c .pretrigger .nanoseconds)
-    ∷ pos (kindNumber (c .layout .kind))
-    ∷ c .code
-    ∷ boolPlace (c .x)
-    ∷ c .local
-    ∷ pos (c .quality)
-    ∷ pos (c .leap)
-    ∷ []
+-- time code, whether the local code is x, local code, quality, leap code; "there is none" for each where the lines are absent
+abbrev pub endPlaces : Last → List ℤ
+endPlaces (Lines e) = e .code ∷ boolPlace (e .x) ∷ e .local ∷ pos (e .quality) ∷ pos (e .leap) ∷ []
+endPlaces Absent = none ∷ none ∷ none ∷ none ∷ none ∷ []
 
--- the 34 places of a configuration
+-- pre-trigger seconds and nanoseconds, kind
+abbrev pub startPlaces : Config → List ℤ
+startPlaces c = c .pretrigger .seconds ∷ pos (c .pretrigger .nanoseconds) ∷ pos (kindNumber (c .layout .kind)) ∷ []
+
+-- those; what the last lines say; the edition's year
+abbrev pub otherPlaces : Config → List ℤ
+otherPlaces c = startPlaces c ++ (endPlaces (c .last) ++ (pos (yearOf (c .layout .edition)) ∷ []))
+
+-- the 35 places of a configuration
 unfoldable pub configPlaces : Config → List ℤ
 configPlaces c = (countPlaces c ++ lastPlaces (c .lasts)) ++ ((momentPlaces (c .first) ++ momentPlaces (c .trigger)) ++ otherPlaces c)

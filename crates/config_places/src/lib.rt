@@ -1,12 +1,17 @@
 // What an accepted configuration shows as places, whole numbers of 64 bits, as the exported calls show it.
 // Each function gives exactly what the definition of its name says.
 use config_rules::Config;
+use config_rules::Last;
+use config_rules::LastLines;
 use config_rules::Moment;
+use model::Edition;
 ghost use mathlib.Core.Path.{_≡_};
-ghost use mathlib.Core.List.{_++_};
+ghost use mathlib.Core.List.{[], _∷_, _++_};
 ghost use lib.IntN.{pos};
 ghost use lib.ListN.{length};
-ghost use Rattle.config_places.specs.Configs.{countPlaces, lastPlaces, momentPlaces, otherPlaces, configPlaces};
+ghost use Rattle.model.specs.Editions.{yearOf};
+ghost use Rattle.config_rules.specs.declared.Last.the-variants.{Lines};
+ghost use Rattle.config_places.specs.Configs.{countPlaces, lastPlaces, momentPlaces, startPlaces, endPlaces, otherPlaces, configPlaces};
 
 // A number of 32 bits as a place.
 fn number_place(v: u32) -> i64
@@ -42,9 +47,9 @@ fn moment_places(moment: Moment) -> [i64; 7]
     ]
 }
 
-// What follows the dates.
-fn other_places(config: Config) -> [i64; 8]
-    ensures { λ r. ⌜ r ≡ otherPlaces config ⌝ }
+// The time before the trigger, and the kind.
+fn start_places(config: Config) -> [i64; 3]
+    ensures { λ r. ⌜ r ≡ startPlaces config ⌝ }
 {
     let layout = config.layout;
     let kind = layout.kind;
@@ -52,12 +57,30 @@ fn other_places(config: Config) -> [i64; 8]
         config.pretrigger.seconds,
         number_place(config.pretrigger.nanoseconds),
         number_place(kind.number()),
-        config.code,
-        row_places::bool_place(config.x),
-        config.local,
-        number_place(config.quality),
-        number_place(config.leap),
     ]
+}
+
+// What the last two lines say.
+fn line_places(lines: LastLines) -> [i64; 5]
+    ensures { λ r. ⌜ r ≡ endPlaces (Lines lines) ⌝ }
+{
+    [
+        lines.code,
+        row_places::bool_place(lines.x),
+        lines.local,
+        number_place(lines.quality),
+        number_place(lines.leap),
+    ]
+}
+
+// The same, or that there is none of it.
+fn end_places(last: Last) -> [i64; 5]
+    ensures { λ r. ⌜ r ≡ endPlaces last ⌝ }
+{
+    match last {
+        Last::Lines(lines) => line_places(lines),
+        Last::Absent => [row_places::NONE; 5],
+    }
 }
 
 // The numbers fill the slice.
@@ -108,20 +131,45 @@ fn put_moments(first: Moment, trigger: Moment, d: &mut [i64])
     copy_numbers(&other, &mut d[7..end]);
 }
 
+// What the last lines say and the edition's year fill the slice.
+fn put_end(last: Last, edition: Edition, d: &mut [i64])
+    requires { ⌜ length (now d) ≡ 6 ⌝ }
+    ensures { λ _. ⌜ now (d .exit) ≡ endPlaces last ++ (pos (yearOf edition) ∷ []) ⌝ }
+{
+    let end = d.len();
+    let places = end_places(last);
+    let year = [number_place(edition.year())];
+    copy_numbers(&places, &mut d[..5]);
+    copy_numbers(&year, &mut d[5..end]);
+}
+
+// What follows the dates fills the slice.
+fn put_others(config: Config, d: &mut [i64])
+    requires { ⌜ length (now d) ≡ 9 ⌝ }
+    ensures { λ _. ⌜ now (d .exit) ≡ otherPlaces config ⌝ }
+{
+    let end = d.len();
+    let places = start_places(config);
+    let last = config.last;
+    let layout = config.layout;
+    let edition = layout.edition;
+    copy_numbers(&places, &mut d[..3]);
+    put_end(last, edition, &mut d[3..end]);
+}
+
 // The dates and what follows them fill the slice.
 fn put_rest(config: Config, d: &mut [i64])
-    requires { ⌜ length (now d) ≡ 22 ⌝ }
+    requires { ⌜ length (now d) ≡ 23 ⌝ }
     ensures { λ _. ⌜ now (d .exit) ≡ (momentPlaces (config .first) ++ momentPlaces (config .trigger)) ++ otherPlaces config ⌝ }
 {
     let end = d.len();
-    let others = other_places(config);
     put_moments(config.first, config.trigger, &mut d[..14]);
-    copy_numbers(&others, &mut d[14..end]);
+    put_others(config, &mut d[14..end]);
 }
 
 // The places of a configuration fill the slice.
 pub fn put_config(config: Config, d: &mut [i64])
-    requires { ⌜ length (now d) ≡ 34 ⌝ }
+    requires { ⌜ length (now d) ≡ 35 ⌝ }
     ensures { λ _. ⌜ now (d .exit) ≡ configPlaces config ⌝ }
 {
     let end = d.len();

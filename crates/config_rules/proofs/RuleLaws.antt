@@ -11,10 +11,12 @@ use Rattle.ground.proofs.Cases.{on-test}
 use Rattle.channel_lines.specs.Channels.{channelsLine}
 use Rattle.channel_lines.specs.Answers.{channelsOf}
 use Rattle.config_lines.proofs.Laws.{date-valid}
+use Rattle.model.specs.declared.Edition.{Edition}
+use Rattle.model.specs.declared.Edition.the-variants.{Y2013, Y1999}
 use Rattle.config_rules.specs.declared.Config.{Config}
 use Rattle.config_rules.specs.declared.Rule.{Rule}
 use Rattle.config_rules.specs.declared.Rule.the-variants.{Station, Counts, Analog, Status, Frequency, RateCount, Rate, First, Trigger, KindWord, Multiplier, Codes, Quality, Done}
-use Rattle.config_rules.specs.Inner.{afterAnalog, afterStatus, afterRate, withFirst, takeLine, Ready}
+use Rattle.config_rules.specs.Inner.{afterAnalog, afterStatus, afterRate, afterMultiplier, withFirst, takeLine, Ready}
 use lib.Dec.{ltb}
 
 statuses-ready : (i d : ℕ) (c : Config) → Ready (afterStatus i d) c
@@ -24,6 +26,11 @@ statuses-ready i d c = on-test (ltb i d) (λ p. rw p tt) (λ p. rw p tt)
 analogs-ready : (i a d : ℕ) (c : Config) → Ready (afterAnalog i a d) c
 unfolding afterAnalog Ready
 analogs-ready i a d c = on-test (ltb i a) (λ p. rw p tt) (λ p. rw p (statuses-ready 0 d c))
+
+multiplier-ready : (e : Edition) (c : Config) → Ready (afterMultiplier e) c
+unfolding afterMultiplier Ready
+multiplier-ready Y2013 c = tt
+multiplier-ready Y1999 c = tt
 
 pub line-ready : (k : Rule) (c : Config) (l : List ℕ) → takeLine k c l .fault .number ≡ 0 → Ready (takeLine k c l .rule) (takeLine k c l .config)
 unfolding takeLine Ready afterRate withFirst
@@ -37,7 +44,7 @@ line-ready (Rate i) c l e = on-test (ltb i (c .rates - 1)) (λ p. rw p tt) (λ p
 line-ready First c l e = date-valid l e
 line-ready Trigger c l e = tt
 line-ready KindWord c l e = tt
-line-ready Multiplier c l e = tt
+line-ready Multiplier c l e = multiplier-ready (c .layout .edition) c
 line-ready Codes c l e = tt
 line-ready Quality c l e = tt
 line-ready Done c l e = tt

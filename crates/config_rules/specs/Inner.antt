@@ -8,6 +8,8 @@ use lib.Dec.{eqb, ltb}
 use lib.IntN.{ℤ, pos}
 use lib.ListN.{set}
 use Rattle.ground.specs.Choice.{if_then_else_}
+use Rattle.model.specs.declared.Edition.{Edition}
+use Rattle.model.specs.declared.Edition.the-variants.{Y2013, Y1999}
 use Rattle.line_fields.specs.declared.Fault.{Fault}
 use Rattle.config_lines.specs.declared.Dated.{Dated}
 use Rattle.line_fields.specs.Checks.{fault}
@@ -15,12 +17,14 @@ use Rattle.line_fields.specs.Answers.{faultOf}
 use Rattle.channel_lines.specs.Channels.{channelsLine, analogLine, statusLine}
 use Rattle.channel_lines.specs.Answers.{channelsOf}
 use Rattle.config_lines.specs.Lines.{stationLine, frequencyLine, ratesLine, rateLine, dateLine, kindLine, multiplierLine, codesLine, qualityLine}
-use Rattle.config_lines.specs.Answers.{countedOf, datedOf, kindedOf, codedOf, qualityOf}
+use Rattle.config_lines.specs.Answers.{stationOf, countedOf, datedOf, kindedOf, codedOf, qualityOf}
 use Rattle.clock.specs.declared.Span.{Span}
 use Rattle.clock.specs.Dates.{validDate}
 use Rattle.clock.specs.Times.{validTime}
 use Rattle.clock.specs.Spans.{preTrigger}
 use Rattle.config_rules.specs.declared.Moment.{Moment}
+use Rattle.config_rules.specs.declared.Last.{Last}
+use Rattle.config_rules.specs.declared.Last.the-variants.{Lines, Absent}
 use Rattle.config_rules.specs.declared.Config.{Config}
 use Rattle.config_rules.specs.declared.Rule.{Rule}
 use Rattle.config_rules.specs.declared.Rule.the-variants.{Station, Counts, Analog, Status, Frequency, RateCount, Rate, First, Trigger, KindWord, Multiplier, Codes, Quality, Done}
@@ -39,10 +43,19 @@ afterAnalog i analogs statuses = if ltb i analogs then Analog (i + 1) else after
 unfoldable pub afterRate : ℕ → ℕ → Rule
 afterRate i rates = if ltb i (rates - 1) then Rate (i + 1) else First
 
+-- the line after the time multiplier's: 1999 has none
+unfoldable pub afterMultiplier : Edition → Rule
+afterMultiplier Y2013 = Codes
+afterMultiplier Y1999 = Done
+
 -- A configuration in which some values are replaced
+-- the edition
+unfoldable pub withEdition : Edition → Config → Config
+withEdition e c = withLayout (record { analogs = c .layout .analogs; statuses = c .layout .statuses; rows = c .layout .rows; kind = c .layout .kind; edition = e }) c
+
 -- A and D
 unfoldable pub withCounts : ℕ → ℕ → Config → Config
-withCounts a d c = withLayout (record { analogs = a; statuses = d; rows = c .layout .rows; kind = c .layout .kind }) c
+withCounts a d c = withLayout (record { analogs = a; statuses = d; rows = c .layout .rows; kind = c .layout .kind; edition = c .layout .edition }) c
 
 -- the number of rates
 unfoldable pub withRates : ℕ → Config → Config
@@ -54,28 +67,20 @@ withRates r c =
       first = c .first;
       trigger = c .trigger;
       pretrigger = c .pretrigger;
-      code = c .code;
-      x = c .x;
-      local = c .local;
-      quality = c .quality;
-      leap = c .leap;
+      last = c .last;
     }
 
 -- last rows, and the number of rows
 abbrev pub withRows : List ℕ → ℕ → Config → Config
 withRows lasts v c =
     record {
-      layout = record { analogs = c .layout .analogs; statuses = c .layout .statuses; rows = v; kind = c .layout .kind };
+      layout = record { analogs = c .layout .analogs; statuses = c .layout .statuses; rows = v; kind = c .layout .kind; edition = c .layout .edition };
       rates = c .rates;
       lasts = lasts;
       first = c .first;
       trigger = c .trigger;
       pretrigger = c .pretrigger;
-      code = c .code;
-      x = c .x;
-      local = c .local;
-      quality = c .quality;
-      leap = c .leap;
+      last = c .last;
     }
 
 -- rate i's last row
@@ -92,21 +97,17 @@ withFirst m c =
       first = m;
       trigger = c .trigger;
       pretrigger = c .pretrigger;
-      code = c .code;
-      x = c .x;
-      local = c .local;
-      quality = c .quality;
-      leap = c .leap;
+      last = c .last;
     }
 
 -- the trigger, and the time before it
 unfoldable pub withTrigger : Moment → Span → Config → Config
 withTrigger m p c =
-    record { layout = c .layout; rates = c .rates; lasts = c .lasts; first = c .first; trigger = m; pretrigger = p; code = c .code; x = c .x; local = c .local; quality = c .quality; leap = c .leap }
+    record { layout = c .layout; rates = c .rates; lasts = c .lasts; first = c .first; trigger = m; pretrigger = p; last = c .last }
 
--- the time codes
-unfoldable pub withCodes : ℤ → Bool → ℤ → Config → Config
-withCodes t x m c =
+-- what the last lines say
+abbrev pub withEnd : Last → Config → Config
+withEnd e c =
     record {
       layout = c .layout;
       rates = c .rates;
@@ -114,29 +115,21 @@ withCodes t x m c =
       first = c .first;
       trigger = c .trigger;
       pretrigger = c .pretrigger;
-      code = t;
-      x = x;
-      local = m;
-      quality = c .quality;
-      leap = c .leap;
+      last = e;
     }
+
+-- the time codes, zeros for what the line after them says
+unfoldable pub withCodes : ℤ → Bool → ℤ → Config → Config
+withCodes t x m c = withEnd (Lines (record { code = t; x = x; local = m; quality = 0; leap = 0 })) c
+
+-- the last lines with quality and leap code
+unfoldable pub qualified : ℕ → ℕ → Last → Last
+qualified q p (Lines e) = Lines (record { code = e .code; x = e .x; local = e .local; quality = q; leap = p })
+qualified q p Absent = Absent
 
 -- quality and leap code
 unfoldable pub withQuality : ℕ → ℕ → Config → Config
-withQuality q p c =
-    record {
-      layout = c .layout;
-      rates = c .rates;
-      lasts = c .lasts;
-      first = c .first;
-      trigger = c .trigger;
-      pretrigger = c .pretrigger;
-      code = c .code;
-      x = c .x;
-      local = c .local;
-      quality = q;
-      leap = p;
-    }
+withQuality q p c = withEnd (qualified q p (c .last)) c
 
 -- trigger minus first sample, where there is a trigger
 unfoldable pub spanTo : Moment → Dated → Span
@@ -152,7 +145,7 @@ taken fault rule config = record { fault = fault; rule = rule; config = config }
 
 -- a line by its rule
 unfoldable pub takeLine : Rule → Config → List ℕ → Taken
-takeLine Station c l = taken (faultOf (stationLine l)) Counts c
+takeLine Station c l = let k = stationOf (stationLine l) in taken (k .fault) Counts (withEdition (k .edition) c)
 takeLine Counts c l =
     let k = channelsOf (channelsLine l) in
     taken (k .fault) (afterAnalog 0 (k .analogs) (k .statuses)) (withCounts (k .analogs) (k .statuses) c)
@@ -163,8 +156,8 @@ takeLine RateCount c l = let k = countedOf (ratesLine l) in taken (k .fault) (Ra
 takeLine (Rate i) c l = let k = countedOf (rateLine (eqb (c .rates) 0) (c .layout .rows) l) in taken (k .fault) (afterRate i (c .rates)) (withLast i (k .value) c)
 takeLine First c l = let k = datedOf (dateLine l) in taken (k .fault) Trigger (withFirst (moment k) c)
 takeLine Trigger c l = let k = datedOf (dateLine l) in taken (k .fault) KindWord (withTrigger (moment k) (spanTo (c .first) k) c)
-takeLine KindWord c l = let k = kindedOf (kindLine l) in taken (k .fault) Multiplier (withKind (k .kind) c)
-takeLine Multiplier c l = taken (faultOf (multiplierLine l)) Codes c
+takeLine KindWord c l = let k = kindedOf (kindLine (c .layout .edition) l) in taken (k .fault) Multiplier (withKind (k .kind) c)
+takeLine Multiplier c l = taken (faultOf (multiplierLine l)) (afterMultiplier (c .layout .edition)) c
 takeLine Codes c l = let k = codedOf (codesLine l) in taken (k .fault) Quality (withCodes (k .code) (k .x) (k .local) c)
 takeLine Quality c l = let k = qualityOf (qualityLine l) in taken (k .fault) Done (withQuality (k .quality) (k .leap) c)
 takeLine Done c l = taken (fault 0 0) Done c

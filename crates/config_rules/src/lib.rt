@@ -5,12 +5,13 @@ use clock::Span;
 use clock::Time;
 use config_lines::Dated;
 use line_fields::Fault;
+use model::Edition;
 use model::Kind;
 use model::Layout;
 ghost use mathlib.Core.Path.{_≡_};
 ghost use mathlib.Core.Bool.{true};
 ghost use Rattle.config_rules.specs.Shown.{withKind};
-ghost use Rattle.config_rules.specs.Inner.{afterAnalog, afterStatus, afterRate, withLast, takeLine, spanTo, Ready};
+ghost use Rattle.config_rules.specs.Inner.{afterAnalog, afterStatus, afterRate, afterMultiplier, withEdition, withLast, withEnd, qualified, takeLine, spanTo, Ready};
 ghost use Rattle.config_lines.specs.Inner.{Calendar};
 ghost use Rattle.clock.specs.Dates.{validDate};
 ghost use Rattle.clock.specs.Times.{validTime};
@@ -21,6 +22,21 @@ pub struct Moment {
     pub time: Time,
 }
 
+// What the last two lines say, where the edition has them: time code, whether the local code is x, local code, quality, leap second code.
+pub struct LastLines {
+    pub code: i64,
+    pub x: bool,
+    pub local: i64,
+    pub quality: u32,
+    pub leap: u32,
+}
+
+// The last two lines, or that there are none.
+pub enum Last {
+    Lines(LastLines),
+    Absent,
+}
+
 // What an accepted configuration shows.
 pub struct Config {
     pub layout: Layout,
@@ -29,11 +45,7 @@ pub struct Config {
     pub first: Moment,
     pub trigger: Moment,
     pub pretrigger: Span,
-    pub code: i64,
-    pub x: bool,
-    pub local: i64,
-    pub quality: u32,
-    pub leap: u32,
+    pub last: Last,
 }
 
 // The rule of the next line: the i-th channel from 1, the i-th rate from 0; or no line is left.
@@ -93,6 +105,34 @@ fn after_rate(i: u32, rates: u32) -> Rule
     Rule::First
 }
 
+// The rule after that of the time multiplier, which is the last line of 1999.
+fn after_multiplier(edition: Edition) -> Rule
+    ensures { λ r. ⌜ r ≡ afterMultiplier edition ⌝ }
+{
+    match edition {
+        Edition::Y2013 => Rule::Codes,
+        Edition::Y1999 => Rule::Done,
+    }
+}
+
+// The configuration with its edition.
+fn with_edition(c: Config, edition: Edition) -> Config
+    ensures { λ r. ⌜ r ≡ withEdition edition c ⌝ }
+{
+    let before = c.layout;
+    let kind = before.kind;
+    let layout = Layout {
+        analogs: before.analogs,
+        statuses: before.statuses,
+        rows: before.rows,
+        kind: kind,
+        edition: edition,
+    };
+    let mut e = c;
+    e.layout = layout;
+    e
+}
+
 // The configuration with the last row of rate i, which is the number of rows so far.
 fn with_last(c: Config, i: u32, last: u32) -> Config
     ensures { λ r. ⌜ r ≡ withLast i last c ⌝ }
@@ -116,6 +156,26 @@ fn with_kind(c: Config, kind: Kind) -> Config
     e
 }
 
+// The configuration with what the last lines say.
+fn with_end(c: Config, last: Last) -> Config
+    ensures { λ r. ⌜ r ≡ withEnd last c ⌝ }
+{
+    let layout = c.layout;
+    let lasts = c.lasts;
+    let first = c.first;
+    let trigger = c.trigger;
+    let pretrigger = c.pretrigger;
+    Config {
+        layout: layout,
+        rates: c.rates,
+        lasts: lasts,
+        first: first,
+        trigger: trigger,
+        pretrigger: pretrigger,
+        last: last,
+    }
+}
+
 // The three together.
 fn judged(fault: Fault, rule: Rule, config: Config) -> Taken
     ensures { λ r. ⌜ r ≡ record { fault = fault; rule = rule; config = config } ⌝ }
@@ -125,6 +185,16 @@ fn judged(fault: Fault, rule: Rule, config: Config) -> Taken
         rule: rule,
         config: config,
     }
+}
+
+// Station, device, year.
+fn take_station(line: &[u8], c: Config) -> Taken
+    ensures { λ r. ⌜ r ≡ takeLine Rule.Station c (now (line .entry)) ⌝ }
+{
+    let k = config_lines::station_line(line);
+    let fault = k.fault;
+    let edition = k.edition;
+    judged(fault, Rule::Counts, with_edition(c, edition))
 }
 
 // TT, A and D: what is left to read follows from them.
@@ -227,10 +297,22 @@ fn take_trigger(line: &[u8], c: Config) -> Taken
 fn take_kind(line: &[u8], c: Config) -> Taken
     ensures { λ r. ⌜ r ≡ takeLine Rule.KindWord c (now (line .entry)) ⌝ }
 {
-    let k = config_lines::kind_line(line);
+    let layout = c.layout;
+    let edition = layout.edition;
+    let k = config_lines::kind_line(line, edition);
     let fault = k.fault;
     let kind = k.kind;
     judged(fault, Rule::Multiplier, with_kind(c, kind))
+}
+
+// The time multiplier.
+fn take_multiplier(line: &[u8], c: Config) -> Taken
+    ensures { λ r. ⌜ r ≡ takeLine Rule.Multiplier c (now (line .entry)) ⌝ }
+{
+    let fault = config_lines::multiplier_line(line);
+    let layout = c.layout;
+    let edition = layout.edition;
+    judged(fault, after_multiplier(edition), c)
 }
 
 // The two time codes.
@@ -239,11 +321,31 @@ fn take_codes(line: &[u8], c: Config) -> Taken
 {
     let k = config_lines::codes_line(line);
     let fault = k.fault;
-    let mut e = c;
-    e.code = k.code;
-    e.x = k.x;
-    e.local = k.local;
-    judged(fault, Rule::Quality, e)
+    let lines = LastLines {
+        code: k.code,
+        x: k.x,
+        local: k.local,
+        quality: 0,
+        leap: 0,
+    };
+    let last = Last::Lines(lines);
+    judged(fault, Rule::Quality, with_end(c, last))
+}
+
+// The last lines with quality and leap second code.
+fn qualified(last: Last, quality: u32, leap: u32) -> Last
+    ensures { λ r. ⌜ r ≡ qualified quality leap last ⌝ }
+{
+    match last {
+        Last::Lines(lines) => Last::Lines(LastLines {
+            code: lines.code,
+            x: lines.x,
+            local: lines.local,
+            quality: quality,
+            leap: leap,
+        }),
+        Last::Absent => Last::Absent,
+    }
 }
 
 // Quality and leap second code, on the last line.
@@ -252,10 +354,9 @@ fn take_quality(line: &[u8], c: Config) -> Taken
 {
     let k = config_lines::quality_line(line);
     let fault = k.fault;
-    let mut e = c;
-    e.quality = k.quality as u32;
-    e.leap = k.leap as u32;
-    judged(fault, Rule::Done, e)
+    let codes = c.last;
+    let last = qualified(codes, k.quality as u32, k.leap as u32);
+    judged(fault, Rule::Done, with_end(c, last))
 }
 
 // A line by its rule. What is shown beside a fault is shown to nobody.
@@ -264,7 +365,7 @@ pub fn take_line(line: &[u8], rule: Rule, c: Config) -> Taken
     ensures { λ r. ⌜ r ≡ takeLine rule c (now (line .entry)) ⌝ }
 {
     match rule {
-        Rule::Station => judged(config_lines::station_line(line), Rule::Counts, c),
+        Rule::Station => take_station(line, c),
         Rule::Counts => take_counts(line, c),
         Rule::Analog(i) => judged(
             channel_lines::analog_line(line, i as u64),
@@ -282,7 +383,7 @@ pub fn take_line(line: &[u8], rule: Rule, c: Config) -> Taken
         Rule::First => take_first(line, c),
         Rule::Trigger => take_trigger(line, c),
         Rule::KindWord => take_kind(line, c),
-        Rule::Multiplier => judged(config_lines::multiplier_line(line), Rule::Codes, c),
+        Rule::Multiplier => take_multiplier(line, c),
         Rule::Codes => take_codes(line, c),
         Rule::Quality => take_quality(line, c),
         Rule::Done => judged(

@@ -1,7 +1,7 @@
 -- What the checks of a line refuse with: each number at its place.
 --     FieldNumber                       the numbers of a field's check, 0 where it is fine
 --     FaultPlaced                       4 for the whole line, 5 to 8 at a field, counted from 1
---     text-check, year-check, index-check, real-check, frequency-check, above-check, zero-check, rate-check, value-check     each check has such a number
+--     text-check, index-check, real-check, frequency-check, above-check, zero-check, rate-check, value-check     each check has such a number
 --     Ruled                             a rule that refuses only so
 --     has-fields-ruled, faultless-ruled, agrees-ruled, number-ruled     the checks that a line is made of
 --     then-ruled, bind-ruled            and what is made of two of them
@@ -25,12 +25,11 @@ use Rattle.numerals.specs.declared.Count.the-variants as count
 use Rattle.numerals.specs.Counts.{lengthIn, readCount}
 use Rattle.fields.specs.declared.Field.{Field}
 use Rattle.fields.specs.declared.Field.the-variants as field
-use Rattle.fields.specs.Fields.{readYear}
 use Rattle.reals.specs.declared.Real.{Real}
 use Rattle.reals.specs.declared.Real.the-variants as real
 use Rattle.reals.specs.Forms.{readReal}
 use Rattle.line_fields.specs.declared.Fault.{Fault}
-use Rattle.line_fields.specs.Faults.{valueOf, textFault, yearIs, yearFault, indexIs, indexFault, anyReal, realFault, frequencyFault, aboveZero, aboveFault, atZero, zeroFault, rateFault}
+use Rattle.line_fields.specs.Faults.{valueOf, textFault, indexIs, indexFault, anyReal, realFault, frequencyFault, aboveZero, aboveFault, atZero, zeroFault, rateFault}
 use Rattle.line_fields.specs.Checks.{fault, hasFields, faultless, numberAt}
 use Rattle.line_fields.specs.Answers.{faultOf}
 
@@ -40,7 +39,6 @@ pub data FieldNumber : ℕ → Type 0 where
   of-form : FieldNumber 5
   of-range : FieldNumber 6
   of-agreement : FieldNumber 7
-  of-year : FieldNumber 8
 
 -- a line's refusal: the number of fields for the whole line, the others at a field
 pub data FaultPlaced : Fault → Type 0 where
@@ -54,14 +52,6 @@ pub data FaultPlaced : Fault → Type 0 where
 pub text-check : (least most : ℕ) (f : List ℕ) → FieldNumber (textFault least most f)
 unfolding textFault
 text-check least most f = on-test (lengthIn least most f) (λ e. rw e fine-field) (λ e. rw e of-form)
-
-pub year-check : (f : List ℕ) → FieldNumber (yearFault f)
-unfolding yearFault
-year-check f = go (readYear f)
-  where
-    go : (v : Count) → FieldNumber (yearIs v)
-    go count.Form = of-form
-    go (count.Is y) = on-test (eqb y 2013) (λ e. rw e fine-field) (λ e. rw e of-year)
 
 pub index-check : (i : ℕ) (f : List ℕ) → FieldNumber (indexFault i f)
 unfolding indexFault
@@ -138,7 +128,6 @@ module _ (k : ℕ) (h : 1 ≤ k) where
       go of-form = form k h
       go of-range = range k h
       go of-agreement = agreement k h
-      go of-year = year k h
 
   pub agrees-ruled : (t : Bool) → Ruled (must t (fault 7 k))
   agrees-ruled t = only-must FaultPlaced t (fault 7 k) (λ e. agreement k h)

@@ -10,7 +10,7 @@ use Rattle.numerals.specs.declared.Count.the-variants as count
 use Rattle.numerals.specs.Counts.{lengthIn, readCount}
 use Rattle.fields.specs.declared.Field.{Field}
 use Rattle.fields.specs.declared.Field.the-variants.{Is, Form, Range}
-use Rattle.fields.specs.Fields.{readYear, readState, readSide}
+use Rattle.fields.specs.Fields.{readState, readSide}
 use Rattle.reals.specs.declared.Real.{Real}
 use Rattle.reals.specs.declared.Real.the-variants as real
 use Rattle.reals.specs.Forms.{readReal}
@@ -25,15 +25,6 @@ valueOf Range = record { number = 6; value = 0 }
 -- a text of least to most characters
 unfoldable pub textFault : ℕ → ℕ → List ℕ → ℕ
 textFault least most l = if lengthIn least most l then 0 else 5
-
--- a year that is four digits must be 2013
-abbrev pub yearIs : Count → ℕ
-yearIs count.Form = 5
-yearIs (count.Is y) = if eqb y 2013 then 0 else 8
-
--- the year: four digits, 2013
-unfoldable pub yearFault : List ℕ → ℕ
-yearFault l = yearIs (readYear l)
 
 -- an index that is a count must be i
 abbrev pub indexIs : ℕ → Count → ℕ

@@ -4,7 +4,7 @@ use fields::Field;
 use numerals::Count;
 use reals::Real;
 ghost use mathlib.Core.Path.{_≡_};
-ghost use Rattle.line_fields.specs.Faults.{valueOf, textFault, yearFault, indexFault, realFault, frequencyFault, aboveFault, zeroFault, rateFault, sideFault, stateFault};
+ghost use Rattle.line_fields.specs.Faults.{valueOf, textFault, indexFault, realFault, frequencyFault, aboveFault, zeroFault, rateFault, sideFault, stateFault};
 
 // A refusal's number and field; zeros for none.
 pub struct Fault {
@@ -56,15 +56,6 @@ pub fn text_fault(field: &[u8], least: usize, most: usize) -> u32
         return 0;
     }
     5
-}
-
-pub fn year_fault(field: &[u8]) -> u32
-    ensures { λ r. ⌜ r ≡ yearFault (now (field .entry)) ⌝ }
-{
-    match fields::read_year(field) {
-        Count::Form => 5,
-        Count::Is(y) => { if y == 2013 { 0 } else { 8 } }
-    }
 }
 
 pub fn index_fault(field: &[u8], i: u64) -> u32

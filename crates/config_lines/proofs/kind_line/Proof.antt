@@ -42,8 +42,8 @@ kind-said-requires-3 c κs = search needs
 enum-known-kind : tie.Need-enum-known-kind
 enum-known-kind c = search needs
 
-kind-said-requires-4 : tie.Need-kind-said-requires-4
-kind-said-requires-4 c κs = search needs
+kind-of-edition-requires : tie.Need-kind-of-edition-requires
+kind-of-edition-requires c κs = search needs
 
 returns-2 : tie.Need-returns-2
 unfolding kindLine
@@ -61,7 +61,7 @@ returns-4 : tie.Need-returns-4
 unfolding kindLine
 returns-4 c =
     let r = c .before .before .before .before in
-    rw (c .kind-said4 .ensures, counted (r .before .before), ← r .before .field-at .ensures, ← r .read-kind .ensures, c .before .before .kind .given .1)
+    rw (c .kind-of-edition .ensures, counted (r .before .before), ← r .before .field-at .ensures, ← r .read-kind .ensures, c .before .before .kind .given .1)
 
 pub kind-line-spec : {M : Type 1} → statement M
 kind-line-spec =
@@ -77,7 +77,7 @@ kind-line-spec =
     enum-told-2
     kind-said-requires-3
     enum-known-kind
-    kind-said-requires-4
+    kind-of-edition-requires
     returns-2
     returns-3
     returns-4)

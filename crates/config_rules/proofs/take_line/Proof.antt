@@ -7,11 +7,8 @@ use Rattle.config_rules.proofs.take_line.Tie as tie
 enum-told : tie.Need-enum-told
 enum-told c = search needs
 
-station-line-requires : tie.Need-station-line-requires
-station-line-requires c κs = search needs
-
-judged-requires : tie.Need-judged-requires
-judged-requires c κs = search needs
+take-station-requires : tie.Need-take-station-requires
+take-station-requires c κs = search needs
 
 enum-told-2 : tie.Need-enum-told-2
 enum-told-2 c = search needs
@@ -31,8 +28,8 @@ analog-line-requires c κs = search needs
 after-analog-requires : tie.Need-after-analog-requires
 after-analog-requires c κs = search needs
 
-judged-requires-2 : tie.Need-judged-requires-2
-judged-requires-2 c κs = search needs
+judged-requires : tie.Need-judged-requires
+judged-requires c κs = search needs
 
 enum-known-rule-2 : tie.Need-enum-known-rule-2
 enum-known-rule-2 c = search needs
@@ -46,8 +43,8 @@ status-line-requires c κs = search needs
 after-status-requires : tie.Need-after-status-requires
 after-status-requires c κs = search needs
 
-judged-requires-3 : tie.Need-judged-requires-3
-judged-requires-3 c κs = search needs
+judged-requires-2 : tie.Need-judged-requires-2
+judged-requires-2 c κs = search needs
 
 enum-told-3 : tie.Need-enum-told-3
 enum-told-3 c = search needs
@@ -55,8 +52,8 @@ enum-told-3 c = search needs
 frequency-line-requires : tie.Need-frequency-line-requires
 frequency-line-requires c κs = search needs
 
-judged-requires-4 : tie.Need-judged-requires-4
-judged-requires-4 c κs = search needs
+judged-requires-3 : tie.Need-judged-requires-3
+judged-requires-3 c κs = search needs
 
 enum-told-4 : tie.Need-enum-told-4
 enum-told-4 c = search needs
@@ -91,11 +88,8 @@ take-kind-requires c κs = search needs
 enum-told-8 : tie.Need-enum-told-8
 enum-told-8 c = search needs
 
-multiplier-line-requires : tie.Need-multiplier-line-requires
-multiplier-line-requires c κs = search needs
-
-judged-requires-5 : tie.Need-judged-requires-5
-judged-requires-5 c κs = search needs
+take-multiplier-requires : tie.Need-take-multiplier-requires
+take-multiplier-requires c κs = search needs
 
 enum-told-9 : tie.Need-enum-told-9
 enum-told-9 c = search needs
@@ -112,27 +106,26 @@ take-quality-requires c κs = search needs
 enum-told-11 : tie.Need-enum-told-11
 enum-told-11 c = search needs
 
-judged-requires-6 : tie.Need-judged-requires-6
-judged-requires-6 c κs = search needs
+judged-requires-4 : tie.Need-judged-requires-4
+judged-requires-4 c κs = search needs
 
 returns : tie.Need-returns
-unfolding takeLine
-returns c = rw (c .judged .ensures, c .before .station-line .ensures, c .before .before .enum-told .given .1)
+returns c = rw (c .take-station .ensures, c .before .enum-told .given .1)
 
 returns-2 : tie.Need-returns-2
 returns-2 c = rw (c .take-counts .ensures, c .before .enum-told2 .given .1)
 
 returns-3 : tie.Need-returns-3
 unfolding takeLine
-returns-3 c = rw (c .judged2 .ensures, c .before .after-analog .ensures, c .before .before .analog-line .ensures, c .before .before .before .before .rule .given .1)
+returns-3 c = rw (c .judged .ensures, c .before .after-analog .ensures, c .before .before .analog-line .ensures, c .before .before .before .before .rule .given .1)
 
 returns-4 : tie.Need-returns-4
 unfolding takeLine
-returns-4 c = rw (c .judged3 .ensures, c .before .after-status .ensures, c .before .before .status-line .ensures, c .before .before .before .before .rule2 .given .1)
+returns-4 c = rw (c .judged2 .ensures, c .before .after-status .ensures, c .before .before .status-line .ensures, c .before .before .before .before .rule2 .given .1)
 
 returns-5 : tie.Need-returns-5
 unfolding takeLine
-returns-5 c = rw (c .judged4 .ensures, c .before .frequency-line .ensures, c .before .before .enum-told3 .given .1)
+returns-5 c = rw (c .judged3 .ensures, c .before .frequency-line .ensures, c .before .before .enum-told3 .given .1)
 
 returns-6 : tie.Need-returns-6
 returns-6 c = rw (c .take-rate-count .ensures, c .before .enum-told4 .given .1)
@@ -150,8 +143,7 @@ returns-10 : tie.Need-returns-10
 returns-10 c = rw (c .take-kind .ensures, c .before .enum-told7 .given .1)
 
 returns-11 : tie.Need-returns-11
-unfolding takeLine
-returns-11 c = rw (c .judged5 .ensures, c .before .multiplier-line .ensures, c .before .before .enum-told8 .given .1)
+returns-11 c = rw (c .take-multiplier .ensures, c .before .enum-told8 .given .1)
 
 returns-12 : tie.Need-returns-12
 returns-12 c = rw (c .take-codes .ensures, c .before .enum-told9 .given .1)
@@ -161,30 +153,29 @@ returns-13 c = rw (c .take-quality .ensures, c .before .enum-told10 .given .1)
 
 returns-14 : tie.Need-returns-14
 unfolding takeLine
-returns-14 c = rw (c .judged6 .ensures, c .before .enum-told11 .given .1)
+returns-14 c = rw (c .judged4 .ensures, c .before .enum-told11 .given .1)
 
 pub take-line-spec : {M : Type 1} → statement M
 take-line-spec =
     tie.close
     (tie.spec
     enum-told
-    station-line-requires
-    judged-requires
+    take-station-requires
     enum-told-2
     take-counts-requires
     enum-known-rule
     cast-analog-line
     analog-line-requires
     after-analog-requires
-    judged-requires-2
+    judged-requires
     enum-known-rule-2
     cast-status-line
     status-line-requires
     after-status-requires
-    judged-requires-3
+    judged-requires-2
     enum-told-3
     frequency-line-requires
-    judged-requires-4
+    judged-requires-3
     enum-told-4
     take-rate-count-requires
     enum-known-rule-3
@@ -196,14 +187,13 @@ take-line-spec =
     enum-told-7
     take-kind-requires
     enum-told-8
-    multiplier-line-requires
-    judged-requires-5
+    take-multiplier-requires
     enum-told-9
     take-codes-requires
     enum-told-10
     take-quality-requires
     enum-told-11
-    judged-requires-6
+    judged-requires-4
     returns
     returns-2
     returns-3

@@ -1,13 +1,18 @@
 // What every exported call answers, and how it is made of an answer of the calls below.
 // Each function gives exactly what the definition of its name says.
 use model::Answer;
+use model::Edition;
+use model::EditionNo;
 use model::Kind;
+use model::KindNo;
 use model::Layout;
 use model::Refusal;
 use model::Written;
 ghost use mathlib.Core.Path.{_≡_};
+ghost use Rattle.model.specs.declared.KindNo.the-variants as number;
+ghost use Rattle.model.specs.Editions.{editionOf};
 ghost use Rattle.model.specs.Refusals.{FewBytes};
-ghost use Rattle.answers.specs.Answers.{yes, no, layoutBy};
+ghost use Rattle.answers.specs.Answers.{yes, no, layoutBy, layoutIn, layoutOf};
 ghost use Rattle.answers.specs.Inner.{plainly, counted};
 
 // The refusal's number and place, zeros for yes; the length in bytes where the call has one, 0 elsewhere.
@@ -62,14 +67,41 @@ pub fn counted(answer: Written) -> zl_answer
     }
 }
 
-// The layout of three numbers and a kind.
-pub fn layout_by(a: u32, d: u32, rows: u32, kind: Kind) -> Layout
-    ensures { λ r. ⌜ r ≡ layoutBy a d rows kind ⌝ }
+// A layout, or that there is no such kind or edition.
+pub enum LayoutNo {
+    Is(Layout),
+    None,
+}
+
+// The layout of three numbers, a kind and an edition.
+fn layout_by(a: u32, d: u32, rows: u32, kind: Kind, edition: Edition) -> Layout
+    ensures { λ r. ⌜ r ≡ layoutBy a d rows kind edition ⌝ }
 {
     Layout {
         analogs: a,
         statuses: d,
         rows: rows,
         kind: kind,
+        edition: edition,
+    }
+}
+
+// The layout of three numbers, a kind, and the edition of a year.
+fn layout_in(a: u32, d: u32, rows: u32, kind: Kind, edition: u32) -> LayoutNo
+    ensures { λ r. ⌜ r ≡ layoutIn a d rows (number.Is kind) (editionOf edition) ⌝ }
+{
+    match Edition::of(edition as u64) {
+        EditionNo::Is(e) => LayoutNo::Is(layout_by(a, d, rows, kind, e)),
+        EditionNo::None => LayoutNo::None,
+    }
+}
+
+// The layout of five numbers: the kind by its number, the edition by its year.
+pub fn layout_of(a: u32, d: u32, rows: u32, kind: u32, edition: u32) -> LayoutNo
+    ensures { λ r. ⌜ r ≡ layoutOf a d rows kind edition ⌝ }
+{
+    match Kind::of(kind) {
+        KindNo::Is(k) => layout_in(a, d, rows, k, edition),
+        KindNo::None => LayoutNo::None,
     }
 }

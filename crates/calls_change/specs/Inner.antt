@@ -1,4 +1,4 @@
--- NOTHING TO BELIEVE HERE: what the calls say in a layout, once the number of its kind is read; `lengthCall` and `changeCall` (specs/Calls.antt) say the same in the layout of four numbers.
+-- NOTHING TO BELIEVE HERE: what the calls say in a layout, once its numbers are read; `lengthCall` and `changeCall` (specs/Calls.antt) say the same in the layout of five numbers.
 use mathlib.Core.List.{List}
 use Prim.Native.Nat.{ℕ}
 use Rattle.ground.specs.Said.{Said, _>>=_}

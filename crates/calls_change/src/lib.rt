@@ -1,5 +1,6 @@
 // The exported calls on a change of kind: zl_length and zl_change.
 // Each answers every combination of its arguments, and gives exactly what the definition of its name says; a refusal changes no lent byte.
+use answers::LayoutNo;
 use answers::zl_answer;
 use model::Kind;
 use model::KindNo;
@@ -22,12 +23,20 @@ fn needed_in(layout: Layout, data: &[u8], new_kind: u32) -> zl_answer
 }
 
 // How many bytes a change of kind needs, or the first refusal; never no room.
-pub fn length(a: u32, d: u32, rows: u32, kind: u32, data: &[u8], new_kind: u32) -> zl_answer
-    ensures { λ r. ⌜ r ≡ told (lengthCall a d rows kind (now («data» .entry)) «new_kind») ⌝ }
+pub fn length(
+    a: u32,
+    d: u32,
+    rows: u32,
+    kind: u32,
+    edition: u32,
+    data: &[u8],
+    new_kind: u32,
+) -> zl_answer
+    ensures { λ r. ⌜ r ≡ told (lengthCall a d rows kind edition (now («data» .entry)) «new_kind») ⌝ }
 {
-    match Kind::of(kind) {
-        KindNo::Is(k) => needed_in(answers::layout_by(a, d, rows, k), data, new_kind),
-        KindNo::None => answers::no(model::refused(10, 0, 0)),
+    match answers::layout_of(a, d, rows, kind, edition) {
+        LayoutNo::Is(layout) => needed_in(layout, data, new_kind),
+        LayoutNo::None => answers::no(model::refused(10, 0, 0)),
     }
 }
 
@@ -48,15 +57,16 @@ pub fn change(
     d: u32,
     rows: u32,
     kind: u32,
+    edition: u32,
     data: &[u8],
     new_kind: u32,
     out: &mut [u8],
 ) -> zl_answer
-    ensures { λ r. ⌜ r ≡ toldWritten (changeCall a d rows kind (now («data» .entry)) «new_kind» (length (now (out .entry)))) ⌝ }
-    ensures { λ _. ⌜ now (out .exit) ≡ over (changeCall a d rows kind (now («data» .entry)) «new_kind» (length (now (out .entry)))) (now (out .entry)) ⌝ }
+    ensures { λ r. ⌜ r ≡ toldWritten (changeCall a d rows kind edition (now («data» .entry)) «new_kind» (length (now (out .entry)))) ⌝ }
+    ensures { λ _. ⌜ now (out .exit) ≡ over (changeCall a d rows kind edition (now («data» .entry)) «new_kind» (length (now (out .entry)))) (now (out .entry)) ⌝ }
 {
-    match Kind::of(kind) {
-        KindNo::Is(k) => change_in(answers::layout_by(a, d, rows, k), data, new_kind, out),
-        KindNo::None => answers::no(model::refused(10, 0, 0)),
+    match answers::layout_of(a, d, rows, kind, edition) {
+        LayoutNo::Is(layout) => change_in(layout, data, new_kind, out),
+        LayoutNo::None => answers::no(model::refused(10, 0, 0)),
     }
 }

@@ -13,4 +13,4 @@ use Rattle.answers.specs.Answers.{placed}
 unfoldable pub configCall : List ℕ → ℕ → Said Refusal (List ℤ)
 configCall s room = do
   c ← configSaid (readConfig s)
-  placed 34 (configPlaces c) room
+  placed 35 (configPlaces c) room

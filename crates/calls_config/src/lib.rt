@@ -11,12 +11,12 @@ ghost use Rattle.answers.specs.Answers.{toldShown, placed};
 ghost use Rattle.calls_config.specs.Calls.{configCall};
 
 // The places of a configuration.
-const CONFIG: usize = 34;
+const CONFIG: usize = 35;
 
 // The places of a configuration, where there is room.
 fn show_config(config: Config, shown: &mut [i64]) -> zl_answer
-    ensures { λ r. ⌜ r ≡ toldShown (placed 34 (configPlaces config) (length (now (shown .entry)))) ⌝ }
-    ensures { λ _. ⌜ now (shown .exit) ≡ over (placed 34 (configPlaces config) (length (now (shown .entry)))) (now (shown .entry)) ⌝ }
+    ensures { λ r. ⌜ r ≡ toldShown (placed 35 (configPlaces config) (length (now (shown .entry)))) ⌝ }
+    ensures { λ _. ⌜ now (shown .exit) ≡ over (placed 35 (configPlaces config) (length (now (shown .entry)))) (now (shown .entry)) ⌝ }
 {
     if shown.len() < CONFIG {
         return answers::no(model::refused(17, 0, 0));
@@ -25,7 +25,7 @@ fn show_config(config: Config, shown: &mut [i64]) -> zl_answer
     answers::yes(0)
 }
 
-// What an accepted configuration shows, as 34 places, or the first refusal; no room last of all.
+// What an accepted configuration shows, as 35 places, or the first refusal; no room last of all.
 pub fn config(cfg: &[u8], shown: &mut [i64]) -> zl_answer
     ensures { λ r. ⌜ r ≡ toldShown (configCall (now (cfg .entry)) (length (now (shown .entry)))) ⌝ }
     ensures { λ _. ⌜ now (shown .exit) ≡ over (configCall (now (cfg .entry)) (length (now (shown .entry)))) (now (shown .entry)) ⌝ }

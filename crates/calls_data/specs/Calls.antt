@@ -8,19 +8,18 @@ use Rattle.ground.specs.Said.{Said, says, _>>=_, _>>_, must}
 use Rattle.model.specs.declared.Layout.{Layout}
 use Rattle.model.specs.declared.Row.{Row}
 use Rattle.model.specs.declared.Refusal.{Refusal}
-use Rattle.model.specs.Kinds.{kindOf}
 use Rattle.model.specs.Layouts.{isSized}
 use Rattle.model.specs.Refusals.{refused, answerSaid}
 use Rattle.data.specs.declared.RowAnswer.{RowAnswer}
 use Rattle.data.specs.Files.{checkFile, showRow, hasRow, writeSaid}
 use Rattle.row_places.specs.Rows.{placesOf, rowPlaces, unfit, rowOfPlaces}
-use Rattle.answers.specs.Answers.{kindSaid, layoutBy, placed}
+use Rattle.answers.specs.Answers.{layoutOf, layoutSaid, placed}
 
 -- zl_check: whether a data file is accepted
-unfoldable pub checkCall : ℕ → ℕ → ℕ → ℕ → List ℕ → Said Refusal ℕ
-checkCall a d rows kind s = do
-  k ← kindSaid (kindOf kind)
-  answerSaid (checkFile (layoutBy a d rows k) s)
+unfoldable pub checkCall : ℕ → ℕ → ℕ → ℕ → ℕ → List ℕ → Said Refusal ℕ
+checkCall a d rows kind edition s = do
+  l ← layoutSaid (layoutOf a d rows kind edition)
+  answerSaid (checkFile l s)
   says 0
 
 -- what the showing of a row says
@@ -30,10 +29,9 @@ rowSaid r = do
   says (r .row)
 
 -- zl_row: the places of row n; no room last of all
-unfoldable pub rowCall : ℕ → ℕ → ℕ → ℕ → List ℕ → ℕ → ℕ → Said Refusal (List ℤ)
-rowCall a d rows kind s n room = do
-  k ← kindSaid (kindOf kind)
-  let l = layoutBy a d rows k
+unfoldable pub rowCall : ℕ → ℕ → ℕ → ℕ → ℕ → List ℕ → ℕ → ℕ → Said Refusal (List ℤ)
+rowCall a d rows kind edition s n room = do
+  l ← layoutSaid (layoutOf a d rows kind edition)
   r ← rowSaid (showRow l s n)
   placed (placesOf l) (rowPlaces l r) room
 
@@ -47,9 +45,8 @@ rowAsked l n zs = do
   says (rowOfPlaces l zs)
 
 -- zl_write_row: the bytes that row n is written in; no room last of all
-unfoldable pub writeCall : ℕ → ℕ → ℕ → ℕ → ℕ → List ℤ → ℕ → Said Refusal (List ℕ)
-writeCall a d rows kind n zs room = do
-  k ← kindSaid (kindOf kind)
-  let l = layoutBy a d rows k
+unfoldable pub writeCall : ℕ → ℕ → ℕ → ℕ → ℕ → ℕ → List ℤ → ℕ → Said Refusal (List ℕ)
+writeCall a d rows kind edition n zs room = do
+  l ← layoutSaid (layoutOf a d rows kind edition)
   r ← rowAsked l n zs
   writeSaid l n r room

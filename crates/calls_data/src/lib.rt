@@ -1,9 +1,8 @@
 // The exported calls on a data file: zl_check, zl_row and zl_write_row.
 // Each answers every combination of its arguments, and gives exactly what the definition of its name says; a refusal changes no lent place or byte.
+use answers::LayoutNo;
 use answers::zl_answer;
 use model::Answer;
-use model::Kind;
-use model::KindNo;
 use model::Layout;
 use model::Row;
 ghost use mathlib.Core.Path.{_≡_};
@@ -16,12 +15,12 @@ ghost use Rattle.calls_data.specs.Calls.{checkCall, rowCall, writeCall};
 ghost use Rattle.calls_data.specs.Inner.{rowIn, writeIn};
 
 // Whether a data file is accepted, or the first refusal.
-pub fn check(a: u32, d: u32, rows: u32, kind: u32, data: &[u8]) -> zl_answer
-    ensures { λ r. ⌜ r ≡ told (checkCall a d rows kind (now («data» .entry))) ⌝ }
+pub fn check(a: u32, d: u32, rows: u32, kind: u32, edition: u32, data: &[u8]) -> zl_answer
+    ensures { λ r. ⌜ r ≡ told (checkCall a d rows kind edition (now («data» .entry))) ⌝ }
 {
-    match Kind::of(kind) {
-        KindNo::Is(k) => answers::plainly(data::check(answers::layout_by(a, d, rows, k), data)),
-        KindNo::None => answers::no(model::refused(10, 0, 0)),
+    match answers::layout_of(a, d, rows, kind, edition) {
+        LayoutNo::Is(layout) => answers::plainly(data::check(layout, data)),
+        LayoutNo::None => answers::no(model::refused(10, 0, 0)),
     }
 }
 
@@ -58,16 +57,17 @@ pub fn row(
     d: u32,
     rows: u32,
     kind: u32,
+    edition: u32,
     data: &[u8],
     n: u32,
     shown: &mut [i64],
 ) -> zl_answer
-    ensures { λ r. ⌜ r ≡ toldShown (rowCall a d rows kind (now («data» .entry)) n (length (now (shown .entry)))) ⌝ }
-    ensures { λ _. ⌜ now (shown .exit) ≡ over (rowCall a d rows kind (now («data» .entry)) n (length (now (shown .entry)))) (now (shown .entry)) ⌝ }
+    ensures { λ r. ⌜ r ≡ toldShown (rowCall a d rows kind edition (now («data» .entry)) n (length (now (shown .entry)))) ⌝ }
+    ensures { λ _. ⌜ now (shown .exit) ≡ over (rowCall a d rows kind edition (now («data» .entry)) n (length (now (shown .entry)))) (now (shown .entry)) ⌝ }
 {
-    match Kind::of(kind) {
-        KindNo::Is(k) => row_in(answers::layout_by(a, d, rows, k), data, n, shown),
-        KindNo::None => answers::no(model::refused(10, 0, 0)),
+    match answers::layout_of(a, d, rows, kind, edition) {
+        LayoutNo::Is(layout) => row_in(layout, data, n, shown),
+        LayoutNo::None => answers::no(model::refused(10, 0, 0)),
     }
 }
 
@@ -99,15 +99,16 @@ pub fn write_row(
     d: u32,
     rows: u32,
     kind: u32,
+    edition: u32,
     n: u32,
     row: &[i64],
     out: &mut [u8],
 ) -> zl_answer
-    ensures { λ r. ⌜ r ≡ toldWritten (writeCall a d rows kind n (now (row .entry)) (length (now (out .entry)))) ⌝ }
-    ensures { λ _. ⌜ now (out .exit) ≡ over (writeCall a d rows kind n (now (row .entry)) (length (now (out .entry)))) (now (out .entry)) ⌝ }
+    ensures { λ r. ⌜ r ≡ toldWritten (writeCall a d rows kind edition n (now (row .entry)) (length (now (out .entry)))) ⌝ }
+    ensures { λ _. ⌜ now (out .exit) ≡ over (writeCall a d rows kind edition n (now (row .entry)) (length (now (out .entry)))) (now (out .entry)) ⌝ }
 {
-    match Kind::of(kind) {
-        KindNo::Is(k) => write_in(answers::layout_by(a, d, rows, k), n, row, out),
-        KindNo::None => answers::no(model::refused(10, 0, 0)),
+    match answers::layout_of(a, d, rows, kind, edition) {
+        LayoutNo::Is(layout) => write_in(layout, n, row, out),
+        LayoutNo::None => answers::no(model::refused(10, 0, 0)),
     }
 }

@@ -5,13 +5,14 @@
 use mathlib.Core.Path.{_≡_, refl}
 use mathlib.Core.List.{List}
 use Prim.Native.Nat.{ℕ}
-use Rattle.ground.specs.Said.{Said, says, refuses, _>>=_, _>>_}
+use Rattle.ground.specs.Said.{Said, says, refuses, _>>=_, _>>_, must}
 use Rattle.model.specs.declared.Answer.{Answer}
 use Rattle.model.specs.declared.Answer.the-variants.{Yes, No}
 use Rattle.model.specs.declared.Kind.{Kind}
 use Rattle.model.specs.declared.KindNo.the-variants.{Is, None}
 use Rattle.model.specs.declared.Refusal.{Refusal}
 use Rattle.model.specs.Kinds.{kindOf}
+use Rattle.model.specs.Editions.{hasKind}
 use Rattle.model.specs.Refusals.{refused, answerSaid}
 use Rattle.config_rules.specs.declared.Config.{Config}
 use Rattle.config.specs.Config.{readConfig}
@@ -27,7 +28,7 @@ once-more (refuses r) f = refl
 
 pub call-writes : (s : List ℕ) (kind : ℕ) (k : Kind) (room : ℕ) → kindOf kind ≡ Is k → writeConfigCall s kind room ≡ rewriteSaid s k room
 unfolding writeConfigCall rewriteSaid
-call-writes s kind k room e = rw e (once-more (configSaid (readConfig s)) (λ c. resultSaid (rewritten c k s) room))
+call-writes s kind k room e = rw e (once-more (configSaid (readConfig s)) (λ c. must (hasKind (c .layout .edition) k) (refused 10 0 0) >> resultSaid (rewritten c k s) room))
 
 pub call-refuses : (s : List ℕ) (kind room : ℕ) → kindOf kind ≡ None → writeConfigCall s kind room ≡ refuses (refusalOr (readConfig s .answer) (refused 10 0 0))
 unfolding writeConfigCall

@@ -10,13 +10,14 @@ use Prim.Native.Nat.{ℕ, zero, suc, _+_, _<_, _≤_}
 use native.Mathlib.Numerals.{add-one}
 use native.Mathlib.Omega.{arith}
 use lib.ListN.{length, length-append}
-use Rattle.ground.specs.Said.{says, _>>_}
+use Rattle.ground.specs.Said.{says, _>>_, must}
 use Rattle.ground.proofs.Cases.{lt-or-ge}
 use Rattle.ground.proofs.SaidLaws.{must-told, then-told}
 use mathlib.Core.Logic.{⊎-elim}
 use Rattle.model.specs.declared.Kind.{Kind}
 use Rattle.model.specs.declared.Layout.{Layout}
 use Rattle.model.specs.declared.Row.{Row}
+use Rattle.model.specs.Editions.{hasKind}
 use Rattle.model.specs.Layouts.{isSized, inKind}
 use Rattle.model.specs.Refusals.{refused}
 use Rattle.row_bytes.specs.Rows.{bytesOf}
@@ -54,16 +55,18 @@ module _ (l : Layout) (s : List ℕ) (k : Kind) where
   unfolding changed
   changed-length = sym (length-file (inKind k l) (rowAt l s))
 
-  pub needed-decided : isSized l ≡ true → bytesNeeded l s k ≡ decided l s k
+  pub needed-decided : isSized l ≡ true → hasKind (l .edition) k ≡ true → bytesNeeded l s k ≡ decided l s k
   unfolding bytesNeeded decided
-  needed-decided ok = rw (ok, changed-length)
+  needed-decided ok has = rw (ok, has, changed-length)
 
   pub needed-length : (m : ℕ) → bytesNeeded l s k ≡ says m → m ≡ length (changed l s k)
   unfolding bytesNeeded
   needed-length m e =
       let last = says (length (changed l s k)) in
       let rows = fitRows (inKind k l) (rowAt l s) 0 (l .rows) in
-      let a = must-told (isSized l) (refused 10 0 0) (fileFine l s >> (rows >> last)) m e in
-      let f = then-told (fileFine l s) (rows >> last) m (a .1) in
+      let kind = must (hasKind (l .edition) k) (refused 10 0 0) in
+      let a = must-told (isSized l) (refused 10 0 0) (kind >> (fileFine l s >> (rows >> last))) m e in
+      let h = must-told (hasKind (l .edition) k) (refused 10 0 0) (fileFine l s >> (rows >> last)) m (a .1) in
+      let f = then-told (fileFine l s) (rows >> last) m (h .1) in
       let g = then-told rows last m (f .1) in
       cc (g .1)

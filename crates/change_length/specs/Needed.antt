@@ -8,6 +8,7 @@ use Rattle.model.specs.declared.Kind.{Kind}
 use Rattle.model.specs.declared.Layout.{Layout}
 use Rattle.model.specs.declared.Row.{Row}
 use Rattle.model.specs.declared.Refusal.{Refusal}
+use Rattle.model.specs.Editions.{hasKind}
 use Rattle.model.specs.Layouts.{isSized, inKind}
 use Rattle.model.specs.Refusals.{refused}
 use Rattle.data.specs.Files.{fileFine, rowAt, misfitOf, fileOf}
@@ -31,6 +32,7 @@ changed l s k = fileOf (inKind k l) (rowAt l s)
 unfoldable pub bytesNeeded : Layout → List ℕ → Kind → Said Refusal ℕ
 bytesNeeded l s k = do
   must (isSized l) (refused 10 0 0)
+  must (hasKind (l .edition) k) (refused 10 0 0)
   fileFine l s
   fitRows (inKind k l) (rowAt l s) 0 (l .rows)
   says (length (changed l s k))

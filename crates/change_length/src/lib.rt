@@ -214,5 +214,9 @@ pub fn bytes_needed(layout: Layout, data: &[u8], kind: Kind) -> Written
     if !layout.is_sized() {
         return Written::No(model::refused(10, 0, 0));
     }
+    let edition = layout.edition;
+    if !edition.has(kind) {
+        return Written::No(model::refused(10, 0, 0));
+    }
     decide(layout, data, kind)
 }

@@ -16,10 +16,11 @@ use Rattle.ground.proofs.SaidLaws.{must-told}
 use Rattle.model.specs.declared.Layout.{Layout}
 use Rattle.model.specs.declared.Row.{Row}
 use Rattle.model.specs.declared.Answer.the-variants.{Yes}
+use Rattle.model.specs.Editions.{hasKind}
 use Rattle.model.specs.Layouts.{isSized, Sized}
 use Rattle.model.specs.Refusals.{refused}
 use Rattle.model.proofs.AnswerLaws.{yes-told}
-use Rattle.model.proofs.LayoutLaws.{sized}
+use Rattle.model.proofs.LayoutLaws.{sized, sized-has}
 use Rattle.row_bytes.specs.Rows.{bytesOf}
 use Rattle.data.specs.Files.{fileFine, hasRow, misfitOf, checkFile, writeSaid}
 
@@ -36,6 +37,7 @@ accepted-fine l s e = must-told (isSized l) (refused 10 0 0) (fileFine l s) tt (
 -- row r, the n-th, is written in these bytes, where there is room for so many
 pub record Writable (l : Layout) (n : ℕ) (r : Row) (room : ℕ) (new : List ℕ) : Type 0 where
   pub fit : Sized l
+  pub has : hasKind (l .edition) (l .kind) ≡ true
   pub there : hasRow l n ≡ true
   pub all : misfitOf l r ≡ l .analogs
   pub bytes : new ≡ bytesOf l n r
@@ -54,4 +56,4 @@ writable l n r room new e =
     let c = must-told (eqb i (l .analogs)) (refused 16 n (3 + i)) roomy new (b .1) in
     let d = must-told (leb (length k) room) (refused 17 0 0) (says k) new (c .1) in
     let s : new ≡ k = cc (d .1) in
-    record { fit = sized l (a .0); there = b .0; all = eqb-true i (l .analogs) (c .0); bytes = s; within = rw s (leb-true (length k) room (d .0)) }
+    record { fit = sized l (a .0); has = sized-has l (a .0); there = b .0; all = eqb-true i (l .analogs) (c .0); bytes = s; within = rw s (leb-true (length k) room (d .0)) }

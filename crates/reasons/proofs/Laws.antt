@@ -47,7 +47,7 @@ module _ {A : Type 0} (f : ℕ → List A) (n i : ℕ) (h : i < n) where
       ∙ ap (λ l. part (length (cat f i)) (length (cat f (i + 1))) l) here
       ∙ part-back (length (cat f i)) (length (cat f (i + 1))) (cat f i) (f i) refl next
 
-pub table-length : length reasonTexts ≡ 539
+pub table-length : length reasonTexts ≡ 556
 unfolding reasonTexts reasonText reasonOf
 table-length = refl
 

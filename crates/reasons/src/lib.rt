@@ -49,16 +49,16 @@ fn reason_start(i: usize) -> usize
         206,
         254,
         309,
-        336,
-        361,
-        386,
-        410,
-        444,
-        464,
-        490,
-        501,
-        532,
-        539,
+        344,
+        369,
+        403,
+        427,
+        461,
+        481,
+        507,
+        518,
+        549,
+        556,
     ];
     starts[i]
 }
@@ -88,9 +88,9 @@ pub fn put_reason(number: u32, out: &mut [u8]) -> Written
             wrong length or form of a field\
             a number, date, kind or code that is not allowed\
             a total, index, last row or maximum that does not agree\
-            an edition that is not 2013\
+            an edition that is not 2013 or 1999\
             bytes after the last line\
-            sizes or kind not allowed\
+            sizes, kind or edition not allowed\
             wrong length of the file\
             a row number that is not the row's\
             a padding bit is set\

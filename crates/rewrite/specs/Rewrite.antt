@@ -6,6 +6,7 @@ use lib.ListN.{length, take, drop}
 use Rattle.ground.specs.Said.{Said, says, _>>=_, _>>_, must}
 use Rattle.model.specs.declared.Kind.{Kind}
 use Rattle.model.specs.declared.Refusal.{Refusal}
+use Rattle.model.specs.Editions.{hasKind}
 use Rattle.model.specs.Refusals.{refused}
 use Rattle.config_rules.specs.declared.Config.{Config}
 use Rattle.config.specs.Config.{readConfig}
@@ -31,8 +32,9 @@ resultSaid new room = do
   must (leb (length new) room) (refused 17 0 0)
   says new
 
--- the bytes that are written: the reader's refusals first
+-- the bytes that are written: the reader's refusals, then 10 for a kind that the edition lacks, then those of the result
 unfoldable pub rewriteSaid : List ℕ → Kind → ℕ → Said Refusal (List ℕ)
 rewriteSaid s k room = do
   c ← configSaid (readConfig s)
+  must (hasKind (c .layout .edition) k) (refused 10 0 0)
   resultSaid (rewritten c k s) room

@@ -14,6 +14,7 @@ ghost use Rattle.model.specs.Refusals.{writtenOf, FewBytes};
 ghost use Rattle.pieces.specs.Inner.{Put};
 ghost use Rattle.rewrite_lines.specs.Lines.{lineText};
 ghost use Rattle.rewrite.specs.Rewrite.{rewritten, resultSaid, rewriteSaid};
+ghost use Rattle.rewrite.specs.Inner.{inEdition};
 
 // The most bytes of a configuration.
 const MOST: usize = 65536;
@@ -88,6 +89,20 @@ fn rewrite(config: Config, kind: Kind, cfg: &[u8], out: &mut [u8]) -> Written
     Written::Bytes(put_rewritten(out, config, kind, cfg))
 }
 
+// The same, where the edition has the kind.
+fn rewrite_in(config: Config, kind: Kind, cfg: &[u8], out: &mut [u8]) -> Written
+    requires { ⌜ length (now cfg) ≤ 65536 ⌝ }
+    ensures { λ r. ⌜ (r ≡ writtenOf (inEdition config kind (now (cfg .entry)) (length (now (out .entry))))) × (FewBytes r) ⌝ }
+    ensures { λ _. ⌜ now (out .exit) ≡ over (inEdition config kind (now (cfg .entry)) (length (now (out .entry)))) (now (out .entry)) ⌝ }
+{
+    let layout = config.layout;
+    let edition = layout.edition;
+    if !edition.has(kind) {
+        return Written::No(model::refused(10, 0, 0));
+    }
+    rewrite(config, kind, cfg, out)
+}
+
 // A configuration is written in a kind at the front of `out`, or nothing is.
 pub fn write_config(cfg: &[u8], kind: Kind, out: &mut [u8]) -> Written
     ensures { λ r. ⌜ (r ≡ writtenOf (rewriteSaid (now (cfg .entry)) kind (length (now (out .entry))))) × (FewBytes r) ⌝ }
@@ -96,7 +111,7 @@ pub fn write_config(cfg: &[u8], kind: Kind, out: &mut [u8]) -> Written
     let read = config::read_config(cfg);
     let answer = read.answer;
     match answer {
-        Answer::Yes => rewrite(read.config, kind, cfg, out),
+        Answer::Yes => rewrite_in(read.config, kind, cfg, out),
         Answer::No(refusal) => Written::No(refusal),
     }
 }

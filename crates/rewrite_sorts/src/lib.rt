@@ -1,13 +1,14 @@
 // The lines of a configuration that is written again: how many there are, what is done with each, and where one ends.
 // Each function gives exactly what the definition of its name says, on any configuration and any bytes.
 use config_rules::Config;
+use model::Edition;
 use rewrite_lines::LineSort;
 use text::Scanned;
 ghost use mathlib.Core.Path.{_≡_};
 ghost use Prim.Native.Nat.{_^_, _≤_, max};
 ghost use lib.ListN.{length, getD};
 ghost use Rattle.rewrite_lines.specs.declared.LineSort.the-variants.{Kept};
-ghost use Rattle.rewrite_sorts.specs.Sorts.{lastSorts, rateSorts, channelSorts, sorts};
+ghost use Rattle.rewrite_sorts.specs.Sorts.{endSorts, lastSorts, rateSorts, channelSorts, sorts};
 ghost use Rattle.rewrite_sorts.specs.Cuts.{cutLine};
 
 // A line that was found: its length, and what it takes with its end.
@@ -26,19 +27,44 @@ fn rate_lines(rates: u32) -> usize
     rates as usize
 }
 
+// How many lines follow that of the time multiplier.
+fn end_lines(edition: Edition) -> usize
+    ensures { λ r. ⌜ r ≡ length (endSorts edition) ⌝ }
+{
+    match edition {
+        Edition::Y2013 => 2,
+        Edition::Y1999 => 0,
+    }
+}
+
 // How many lines a configuration has.
 pub fn line_count(config: Config) -> usize
     ensures { λ r. ⌜ r ≡ length (sorts config) ⌝ }
     ensures { λ r. ⌜ r ≤ 2 ^ 34 ⌝ }
 {
-    let a = config.layout.analogs as usize;
-    let d = config.layout.statuses as usize;
-    10 + a + d + rate_lines(config.rates)
+    let layout = config.layout;
+    let a = layout.analogs as usize;
+    let d = layout.statuses as usize;
+    let edition = layout.edition;
+    8 + a + d + rate_lines(config.rates) + end_lines(edition)
+}
+
+// What is done with the n-th line after that of the time multiplier, counted from 0.
+fn end_sort(edition: Edition, n: usize) -> LineSort
+    ensures { λ r. ⌜ r ≡ getD (endSorts edition) n Kept ⌝ }
+{
+    if end_lines(edition) <= n {
+        return LineSort::Kept;
+    }
+    if n < 1 {
+        return LineSort::Numbers;
+    }
+    LineSort::Kept
 }
 
 // What is done with the n-th of the last lines, counted from 0.
-fn last_sort(n: usize) -> LineSort
-    ensures { λ r. ⌜ r ≡ getD lastSorts n Kept ⌝ }
+fn last_sort(edition: Edition, n: usize) -> LineSort
+    ensures { λ r. ⌜ r ≡ getD (lastSorts edition) n Kept ⌝ }
 {
     if n < 2 {
         return LineSort::Kept;
@@ -46,37 +72,39 @@ fn last_sort(n: usize) -> LineSort
     if n < 3 {
         return LineSort::Word;
     }
-    if n < 5 {
+    if n < 4 {
         return LineSort::Numbers;
     }
-    LineSort::Kept
+    end_sort(edition, n - 4)
 }
 
 // What is done with the n-th line from the line frequency on, counted from 0.
-fn rate_sort(rates: u32, n: usize) -> LineSort
-    ensures { λ r. ⌜ r ≡ getD (rateSorts rates) n Kept ⌝ }
+fn rate_sort(edition: Edition, rates: u32, n: usize) -> LineSort
+    ensures { λ r. ⌜ r ≡ getD (rateSorts edition rates) n Kept ⌝ }
 {
     let m = 2 + rate_lines(rates);
     if n < m {
         return LineSort::Numbers;
     }
-    last_sort(n - m)
+    last_sort(edition, n - m)
 }
 
 // What is done with the n-th line from the first channel on, counted from 0.
 fn channel_sort(config: Config, n: usize) -> LineSort
     ensures { λ r. ⌜ r ≡ getD (channelSorts config) n Kept ⌝ }
 {
-    let a = config.layout.analogs as usize;
+    let layout = config.layout;
+    let a = layout.analogs as usize;
     if n < a {
         return LineSort::Analog;
     }
     let m = n - a;
-    let d = config.layout.statuses as usize;
+    let d = layout.statuses as usize;
     if m < d {
         return LineSort::Status;
     }
-    rate_sort(config.rates, m - d)
+    let edition = layout.edition;
+    rate_sort(edition, config.rates, m - d)
 }
 
 // What is done with the n-th line of a configuration, counted from 0.

@@ -11,7 +11,7 @@ ghost use Rattle.calls_data.specs.Calls.{checkCall, rowCall, writeCall};
 ghost use Rattle.calls_change.specs.Calls.{lengthCall, changeCall};
 ghost use Rattle.calls_rewrite.specs.Calls.{writeConfigCall};
 
-// What an accepted configuration shows, as 34 places, or the first refusal; no room last of all.
+// What an accepted configuration shows, as 35 places, or the first refusal; no room last of all.
 #[no_mangle]
 pub extern "C" fn zl_config(cfg: &[u8], shown: &mut [i64]) -> zl_answer
     ensures { λ r. ⌜ r ≡ toldShown (configCall (now (cfg .entry)) (length (now (shown .entry)))) ⌝ }
@@ -22,10 +22,17 @@ pub extern "C" fn zl_config(cfg: &[u8], shown: &mut [i64]) -> zl_answer
 
 // Whether a data file is accepted, or the first refusal.
 #[no_mangle]
-pub extern "C" fn zl_check(a: u32, d: u32, rows: u32, kind: u32, data: &[u8]) -> zl_answer
-    ensures { λ r. ⌜ r ≡ told (checkCall a d rows kind (now («data» .entry))) ⌝ }
+pub extern "C" fn zl_check(
+    a: u32,
+    d: u32,
+    rows: u32,
+    kind: u32,
+    edition: u32,
+    data: &[u8],
+) -> zl_answer
+    ensures { λ r. ⌜ r ≡ told (checkCall a d rows kind edition (now («data» .entry))) ⌝ }
 {
-    calls_data::check(a, d, rows, kind, data)
+    calls_data::check(a, d, rows, kind, edition, data)
 }
 
 // Time, samples and statuses of row n, as 1 + A + D places, or the first refusal; no room last of all.
@@ -35,14 +42,15 @@ pub extern "C" fn zl_row(
     d: u32,
     rows: u32,
     kind: u32,
+    edition: u32,
     data: &[u8],
     n: u32,
     shown: &mut [i64],
 ) -> zl_answer
-    ensures { λ r. ⌜ r ≡ toldShown (rowCall a d rows kind (now («data» .entry)) n (length (now (shown .entry)))) ⌝ }
-    ensures { λ _. ⌜ now (shown .exit) ≡ over (rowCall a d rows kind (now («data» .entry)) n (length (now (shown .entry)))) (now (shown .entry)) ⌝ }
+    ensures { λ r. ⌜ r ≡ toldShown (rowCall a d rows kind edition (now («data» .entry)) n (length (now (shown .entry)))) ⌝ }
+    ensures { λ _. ⌜ now (shown .exit) ≡ over (rowCall a d rows kind edition (now («data» .entry)) n (length (now (shown .entry)))) (now (shown .entry)) ⌝ }
 {
-    calls_data::row(a, d, rows, kind, data, n, shown)
+    calls_data::row(a, d, rows, kind, edition, data, n, shown)
 }
 
 // The places of row n, written at the front of `out` as bytes of the kind, or nothing is.
@@ -52,14 +60,15 @@ pub extern "C" fn zl_write_row(
     d: u32,
     rows: u32,
     kind: u32,
+    edition: u32,
     n: u32,
     row: &[i64],
     out: &mut [u8],
 ) -> zl_answer
-    ensures { λ r. ⌜ r ≡ toldWritten (writeCall a d rows kind n (now (row .entry)) (length (now (out .entry)))) ⌝ }
-    ensures { λ _. ⌜ now (out .exit) ≡ over (writeCall a d rows kind n (now (row .entry)) (length (now (out .entry)))) (now (out .entry)) ⌝ }
+    ensures { λ r. ⌜ r ≡ toldWritten (writeCall a d rows kind edition n (now (row .entry)) (length (now (out .entry)))) ⌝ }
+    ensures { λ _. ⌜ now (out .exit) ≡ over (writeCall a d rows kind edition n (now (row .entry)) (length (now (out .entry)))) (now (out .entry)) ⌝ }
 {
-    calls_data::write_row(a, d, rows, kind, n, row, out)
+    calls_data::write_row(a, d, rows, kind, edition, n, row, out)
 }
 
 // How many bytes a change of kind needs, or the first refusal; never no room.
@@ -69,12 +78,13 @@ pub extern "C" fn zl_length(
     d: u32,
     rows: u32,
     kind: u32,
+    edition: u32,
     data: &[u8],
     new_kind: u32,
 ) -> zl_answer
-    ensures { λ r. ⌜ r ≡ told (lengthCall a d rows kind (now («data» .entry)) «new_kind») ⌝ }
+    ensures { λ r. ⌜ r ≡ told (lengthCall a d rows kind edition (now («data» .entry)) «new_kind») ⌝ }
 {
-    calls_change::length(a, d, rows, kind, data, new_kind)
+    calls_change::length(a, d, rows, kind, edition, data, new_kind)
 }
 
 // The file in another kind, written at the front of `out`, or nothing is.
@@ -84,14 +94,15 @@ pub extern "C" fn zl_change(
     d: u32,
     rows: u32,
     kind: u32,
+    edition: u32,
     data: &[u8],
     new_kind: u32,
     out: &mut [u8],
 ) -> zl_answer
-    ensures { λ r. ⌜ r ≡ toldWritten (changeCall a d rows kind (now («data» .entry)) «new_kind» (length (now (out .entry)))) ⌝ }
-    ensures { λ _. ⌜ now (out .exit) ≡ over (changeCall a d rows kind (now («data» .entry)) «new_kind» (length (now (out .entry)))) (now (out .entry)) ⌝ }
+    ensures { λ r. ⌜ r ≡ toldWritten (changeCall a d rows kind edition (now («data» .entry)) «new_kind» (length (now (out .entry)))) ⌝ }
+    ensures { λ _. ⌜ now (out .exit) ≡ over (changeCall a d rows kind edition (now («data» .entry)) «new_kind» (length (now (out .entry)))) (now (out .entry)) ⌝ }
 {
-    calls_change::change(a, d, rows, kind, data, new_kind, out)
+    calls_change::change(a, d, rows, kind, edition, data, new_kind, out)
 }
 
 // The configuration in a kind, written at the front of `out`, or nothing is.

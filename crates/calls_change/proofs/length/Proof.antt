@@ -1,4 +1,4 @@
--- `calls_change::length` meets its contract: the kind of the number, and then the call below.
+-- `calls_change::length` meets its contract: the layout of the numbers, and then the call below.
 use Rattle.calls_change.specs.Calls.{lengthCall}
 use Rattle.calls_change.specs.Inner.{neededIn}
 use mathlib.Core.Path.{sym, _∙_}
@@ -6,14 +6,11 @@ use borrow.Author.Needs.{needs}
 use Rattle.calls_change.proofs.length.Statement.{statement}
 use Rattle.calls_change.proofs.length.Tie as tie
 
-of-requires : tie.Need-of-requires
-of-requires c κs = search needs
+layout-of-requires : tie.Need-layout-of-requires
+layout-of-requires c κs = search needs
 
-enum-known-k : tie.Need-enum-known-k
-enum-known-k c = search needs
-
-layout-by-requires : tie.Need-layout-by-requires
-layout-by-requires c κs = search needs
+enum-known-layout : tie.Need-enum-known-layout
+enum-known-layout c = search needs
 
 needed-in-requires : tie.Need-needed-in-requires
 needed-in-requires c κs = search needs
@@ -30,24 +27,23 @@ no-requires c κs = search needs
 returns : tie.Need-returns
 unfolding lengthCall neededIn
 returns c =
-    let b = c .before .before .before in
-    let kind = sym (b .before .before .of .ensures) ∙ b .k .given .1 in
-    rw (c .needed-in .ensures, c .before .layout-by .ensures, kind)
+    let b = c .before .before in
+    let there = sym (b .before .before .layout-of .ensures) ∙ b .layout .given .1 in
+    rw (c .needed-in .ensures, there)
 
 returns-2 : tie.Need-returns-2
 unfolding lengthCall neededIn
 returns-2 c =
     let b = c .before .before in
-    let kind = sym (b .before .before .of .ensures) ∙ b .enum-told .given .1 in
-    rw (c .no .ensures, c .before .refused .ensures, kind)
+    let none = sym (b .before .before .layout-of .ensures) ∙ b .enum-told .given .1 in
+    rw (c .no .ensures, c .before .refused .ensures, none)
 
 pub length-spec : {M : Type 1} → statement M
 length-spec =
     tie.close
     (tie.spec
-    of-requires
-    enum-known-k
-    layout-by-requires
+    layout-of-requires
+    enum-known-layout
     needed-in-requires
     enum-told
     refused-requires

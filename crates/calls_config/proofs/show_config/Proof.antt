@@ -1,4 +1,4 @@
--- `calls_config::show_config` meets its contract: 34 places are filled where there is room for them.
+-- `calls_config::show_config` meets its contract: 35 places are filled where there is room for them.
 use Rattle.config_places.proofs.ConfigLaws.{config-places}
 use native.Mathlib.Omega.{arith}
 use borrow.Author.Tests.{le-leb, lt-leb}
@@ -18,7 +18,7 @@ no-requires c κs = search needs
 returns : tie.Need-returns
 returns c =
     let b = c .before .before in
-    let short = lt-leb 34 (length (b .before .args .shown .now)) (b .if1 .taken) in
+    let short = lt-leb 35 (length (b .before .args .shown .now)) (b .if1 .taken) in
     (rw (c .no .ensures, c .before .refused .ensures, short), rw short)
 
 slice-relend-prefix-put-config : tie.Need-slice-relend-prefix-put-config
@@ -28,7 +28,7 @@ slice-aggregate-put-config : tie.Need-slice-aggregate-put-config
 slice-aggregate-put-config c = sym (length-take-le _ (c .before .before .args .shown .now) (omega (arith, c .before .if1 .left)))
 
 put-config-requires : tie.Need-put-config-requires
-put-config-requires c κs = length-take-le 34 (c .before .before .args .shown .now) (c .before .if1 .left)
+put-config-requires c κs = length-take-le 35 (c .before .before .args .shown .now) (c .before .if1 .left)
 
 yes-requires : tie.Need-yes-requires
 yes-requires c κs = search needs
@@ -40,7 +40,7 @@ returns-2 : tie.Need-returns-2
 returns-2 c =
     let b = c .before .before .before .before in
     let s = b .before .args in
-    let room = le-leb 34 (length (s .shown .now)) (b .if1 .left) in
+    let room = le-leb 35 (length (s .shown .now)) (b .if1 .left) in
     (rw (c .yes .ensures, room), rw (room, c .before .before .put-config .ensures, config-places (s .config)))
 
 pub show-config-spec : {M : Type 1} → statement M

@@ -1,18 +1,15 @@
--- `calls_data::check` meets its contract: the kind of the number, and then the call below.
+-- `calls_data::check` meets its contract: the layout of the numbers, and then the call below.
 use Rattle.calls_data.specs.Calls.{checkCall}
 use mathlib.Core.Path.{sym, _∙_}
 use borrow.Author.Needs.{needs}
 use Rattle.calls_data.proofs.check.Statement.{statement}
 use Rattle.calls_data.proofs.check.Tie as tie
 
-of-requires : tie.Need-of-requires
-of-requires c κs = search needs
+layout-of-requires : tie.Need-layout-of-requires
+layout-of-requires c κs = search needs
 
-enum-known-k : tie.Need-enum-known-k
-enum-known-k c = search needs
-
-layout-by-requires : tie.Need-layout-by-requires
-layout-by-requires c κs = search needs
+enum-known-layout : tie.Need-enum-known-layout
+enum-known-layout c = search needs
 
 check-requires : tie.Need-check-requires
 check-requires c κs = search needs
@@ -32,24 +29,23 @@ no-requires c κs = search needs
 returns : tie.Need-returns
 unfolding checkCall
 returns c =
-    let b = c .before .before .before .before in
-    let kind = sym (b .before .before .of .ensures) ∙ b .k .given .1 in
-    rw (c .plainly .ensures, c .before .check .ensures, c .before .before .layout-by .ensures, kind)
+    let b = c .before .before .before in
+    let there = sym (b .before .before .layout-of .ensures) ∙ b .layout .given .1 in
+    rw (c .plainly .ensures, c .before .check .ensures, there)
 
 returns-2 : tie.Need-returns-2
 unfolding checkCall
 returns-2 c =
     let b = c .before .before in
-    let kind = sym (b .before .before .of .ensures) ∙ b .enum-told .given .1 in
-    rw (c .no .ensures, c .before .refused .ensures, kind)
+    let none = sym (b .before .before .layout-of .ensures) ∙ b .enum-told .given .1 in
+    rw (c .no .ensures, c .before .refused .ensures, none)
 
 pub check-spec : {M : Type 1} → statement M
 check-spec =
     tie.close
     (tie.spec
-    of-requires
-    enum-known-k
-    layout-by-requires
+    layout-of-requires
+    enum-known-layout
     check-requires
     plainly-requires
     enum-told

@@ -1,4 +1,4 @@
--- `calls_data::row` meets its contract: the kind of the number, and then the call below.
+-- `calls_data::row` meets its contract: the layout of the numbers, and then the call below.
 use Rattle.calls_data.specs.Calls.{rowCall}
 use Rattle.calls_data.specs.Inner.{rowIn}
 use mathlib.Core.Path.{sym, _∙_}
@@ -6,14 +6,11 @@ use borrow.Author.Needs.{needs}
 use Rattle.calls_data.proofs.row.Statement.{statement}
 use Rattle.calls_data.proofs.row.Tie as tie
 
-of-requires : tie.Need-of-requires
-of-requires c κs = search needs
+layout-of-requires : tie.Need-layout-of-requires
+layout-of-requires c κs = search needs
 
-enum-known-k : tie.Need-enum-known-k
-enum-known-k c = search needs
-
-layout-by-requires : tie.Need-layout-by-requires
-layout-by-requires c κs = search needs
+enum-known-layout : tie.Need-enum-known-layout
+enum-known-layout c = search needs
 
 row-in-requires : tie.Need-row-in-requires
 row-in-requires c κs = search needs
@@ -33,26 +30,24 @@ same-length c = search needs
 returns : tie.Need-returns
 unfolding rowCall rowIn
 returns c =
-    let b = c .before .before .before .before .before in
-    let kind = sym (b .before .before .of .ensures) ∙ b .k .given .1 in
-    let layout = c .before .before .before .layout-by .ensures in
+    let b = c .before .before .before .before in
+    let there = sym (b .before .before .layout-of .ensures) ∙ b .layout .given .1 in
     let said = c .before .row-in .ensures in
-    (rw (said .0, layout, kind), rw kind (rw layout at (said .1)))
+    (rw (said .0, there), rw there (said .1))
 
 returns-2 : tie.Need-returns-2
 unfolding rowCall rowIn
 returns-2 c =
     let b = c .before .before in
-    let kind = sym (b .before .before .of .ensures) ∙ b .enum-told .given .1 in
-    (rw (c .no .ensures, c .before .refused .ensures, kind), rw kind)
+    let none = sym (b .before .before .layout-of .ensures) ∙ b .enum-told .given .1 in
+    (rw (c .no .ensures, c .before .refused .ensures, none), rw none)
 
 pub row-spec : {M : Type 1} → statement M
 row-spec =
     tie.close
     (tie.spec
-    of-requires
-    enum-known-k
-    layout-by-requires
+    layout-of-requires
+    enum-known-layout
     row-in-requires
     enum-told
     refused-requires

@@ -41,7 +41,7 @@ say-text-requires : tie.Need-say-text-requires
 say-text-requires c κs =
     let t = c .before .before in
     let s = t .before .before .before .before in
-    let n : length (s .args .table .now) ≡ 539 = ap length (s .pre .0) ∙ table-length in
+    let n : length (s .args .table .now) ≡ 556 = ap length (s .pre .0) ∙ table-length in
     omega (arith, length-part-le (t .before .reason-start .result) (t .reason-start2 .result) (s .args .table .now), lies t .1)
 
 same-length : tie.Need-same-length

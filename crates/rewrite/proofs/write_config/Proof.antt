@@ -1,7 +1,8 @@
--- `rewrite::write_config` meets its contract: the reader's refusals, and then those of the writer.
+-- `rewrite::write_config` meets its contract: the reader's refusals, and then what is said of the kind and the result.
 use mathlib.Core.Path.{sym, ap, _∙_}
 use Rattle.config.specs.declared.ConfigAnswer.{ConfigAnswer}
 use Rattle.rewrite.specs.Rewrite.{rewriteSaid}
+use Rattle.rewrite.specs.Inner.{inEdition}
 use Rattle.rewrite.proofs.SmallLaws.{accepted-small}
 use borrow.Author.Needs.{needs}
 use Rattle.rewrite.proofs.write_config.Statement.{statement}
@@ -13,8 +14,8 @@ read-config-requires c κs = search needs
 enum-told : tie.Need-enum-told
 enum-told c = search needs
 
-rewrite-requires : tie.Need-rewrite-requires
-rewrite-requires c κs = accepted-small _ (ap (λ (r : ConfigAnswer). r .answer) (sym (c .before .before .before .read-config .ensures)) ∙ c .before .enum-told .given .1)
+rewrite-in-requires : tie.Need-rewrite-in-requires
+rewrite-in-requires c κs = accepted-small _ (ap (λ (r : ConfigAnswer). r .answer) (sym (c .before .before .before .read-config .ensures)) ∙ c .before .enum-told .given .1)
 
 enum-known-answer : tie.Need-enum-known-answer
 enum-known-answer c = search needs
@@ -23,11 +24,11 @@ same-length : tie.Need-same-length
 same-length c = search needs
 
 returns : tie.Need-returns
-unfolding rewriteSaid
+unfolding rewriteSaid inEdition
 returns c =
     let read = c .before .before .before .before .before .before .read-config .ensures in
     let yes = c .before .before .before .before .enum-told .given .1 in
-    let said = c .before .before .rewrite .ensures in
+    let said = c .before .before .rewrite-in .ensures in
     ((rw (← read, yes) (said .0 .0), said .0 .1), rw (← read, yes) (said .1))
 
 returns-2 : tie.Need-returns-2
@@ -43,7 +44,7 @@ write-config-spec =
     (tie.spec
     read-config-requires
     enum-told
-    rewrite-requires
+    rewrite-in-requires
     enum-known-answer
     same-length
     returns

@@ -19,7 +19,7 @@ cast-d c = search needs
 
 returns-2 : tie.Need-returns-2
 returns-2 c =
-    let a = c .before .before .before .before .args in
+    let a = c .before .before .before .before .before .args in
     sym (sort-after Analog _ (a .config .layout .analogs) (a .n) (omega arith) ∙ sort-group Status _ _ _ (c .if2 .taken))
 
 rate-sort-requires : tie.Need-rate-sort-requires
@@ -27,7 +27,7 @@ rate-sort-requires c κs = search needs
 
 returns-3 : tie.Need-returns-3
 returns-3 c =
-    let a = c .before .before .before .before .before .args in
+    let a = c .before .before .before .before .before .before .args in
     let l = a .config .layout in
     c .rate-sort .ensures ∙ sym (sort-after Analog _ (l .analogs) (a .n) (omega arith) ∙ sort-after Status _ (l .statuses) (a .n - l .analogs) (omega arith))
 

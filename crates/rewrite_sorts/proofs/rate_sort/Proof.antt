@@ -17,7 +17,9 @@ add-m : tie.Need-add-m
 add-m c = search needs
 
 returns : tie.Need-returns
-returns c = sym (sort-group Numbers lastSorts (suc (suc (max 1 (c .before .before .args .rates)))) (c .before .before .args .n) (omega arith))
+returns c =
+    let a = c .before .before .args in
+    sym (sort-group Numbers (lastSorts (a .edition)) (suc (suc (max 1 (a .rates)))) (a .n) (omega arith))
 
 last-sort-requires : tie.Need-last-sort-requires
 last-sort-requires c κs = search needs
@@ -27,7 +29,8 @@ returns-2 c =
     let a = c .before .before .before .args in
     let m = max 1 (a .rates) in
     let e : a .n - suc (suc m) ≡ a .n - (2 + c .before .before .rate-lines .result) = omega arith in
-    c .last-sort .ensures ∙ sym (sort-after Numbers lastSorts (suc (suc m)) (a .n) (omega arith) ∙ ap (λ (k : ℕ). getD lastSorts k Kept) e)
+    let l = lastSorts (a .edition) in
+    c .last-sort .ensures ∙ sym (sort-after Numbers l (suc (suc m)) (a .n) (omega arith) ∙ ap (λ (k : ℕ). getD l k Kept) e)
 
 pub rate-sort-spec : {M : Type 1} → statement M
 rate-sort-spec =

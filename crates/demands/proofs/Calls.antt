@@ -33,6 +33,7 @@ use Rattle.model.specs.declared.Row.{Row}
 use Rattle.model.specs.declared.Refusal.{Refusal}
 use Rattle.model.specs.declared.Answer.the-variants.{No}
 use Rattle.model.specs.Kinds.{kindOf}
+use Rattle.model.specs.Editions.{hasKind}
 use Rattle.model.specs.Layouts.{isSized, inKind}
 use Rattle.model.specs.Refusals.{refused, answerOf, answerSaid}
 use Rattle.model.specs.Rows.{zeroRow}
@@ -51,8 +52,10 @@ use Rattle.config_places.specs.Configs.{configPlaces}
 use Rattle.config_places.proofs.ConfigLaws.{config-places}
 use Rattle.row_places.proofs.RowLaws.{row-places, places-back}
 use Rattle.reasons.specs.Reasons.{reasonOf, textSaid, reasonSaid}
+use Rattle.answers.specs.declared.LayoutNo.{LayoutNo}
+use Rattle.answers.specs.declared.LayoutNo.the-variants as layout
 use Rattle.answers.specs.declared.zl_answer.{«zl_answer»}
-use Rattle.answers.specs.Answers.{told, toldWritten, toldShown, kindSaid, layoutBy, placed}
+use Rattle.answers.specs.Answers.{told, toldWritten, toldShown, kindSaid, layoutOf, layoutSaid, placed}
 use Rattle.config.specs.Said.{configSaid}
 use Rattle.calls_config.specs.Calls.{configCall}
 use Rattle.calls_data.specs.Calls.{checkCall, rowSaid, rowCall, rowAsked, writeCall}
@@ -108,30 +111,30 @@ reason-within n = bind-within (reasonOf n) textSaid (λ text. placed-within (len
 
 config-within : (s : List ℕ) → Within (configCall s)
 unfolding configCall
-config-within s = bind-within (configSaid (readConfig s)) (λ c. placed 34 (configPlaces c)) (λ c. placed-within 34 (configPlaces c) (config-places c))
+config-within s = bind-within (configSaid (readConfig s)) (λ c. placed 35 (configPlaces c)) (λ c. placed-within 35 (configPlaces c) (config-places c))
 
 row-within : (l : Layout) (s : List ℕ) (n : ℕ) → Within (rowIn l s n)
 unfolding rowIn
 row-within l s n = bind-within (rowSaid (showRow l s n)) (λ r. placed (placesOf l) (rowPlaces l r)) (λ r. placed-within (placesOf l) (rowPlaces l r) (row-places l r))
 
-row-call-within : (a d rows kind : ℕ) (s : List ℕ) (n : ℕ) → Within (rowCall a d rows kind s n)
+row-call-within : (a d rows kind edition : ℕ) (s : List ℕ) (n : ℕ) → Within (rowCall a d rows kind edition s n)
 unfolding rowCall rowIn
-row-call-within a d rows kind s n = bind-within (kindSaid (kindOf kind)) (λ k. rowIn (layoutBy a d rows k) s n) (λ k. row-within (layoutBy a d rows k) s n)
+row-call-within a d rows kind edition s n = bind-within (layoutSaid (layoutOf a d rows kind edition)) (λ l. rowIn l s n) (λ l. row-within l s n)
 
-write-call-within : (a d rows kind n : ℕ) (zs : List ℤ) → Within (writeCall a d rows kind n zs)
+write-call-within : (a d rows kind edition n : ℕ) (zs : List ℤ) → Within (writeCall a d rows kind edition n zs)
 unfolding writeCall writeIn
-write-call-within a d rows kind n zs =
-    bind-within (kindSaid (kindOf kind)) (λ k. writeIn (layoutBy a d rows k) n zs) (λ k.
-    bind-within (rowAsked (layoutBy a d rows k) n zs) (writeSaid (layoutBy a d rows k) n) (write-within (layoutBy a d rows k) n))
+write-call-within a d rows kind edition n zs =
+    bind-within (layoutSaid (layoutOf a d rows kind edition)) (λ l. writeIn l n zs) (λ l.
+    bind-within (rowAsked l n zs) (writeSaid l n) (write-within l n))
 
-change-call-within : (a d rows kind : ℕ) (s : List ℕ) (new : ℕ) → Within (changeCall a d rows kind s new)
+change-call-within : (a d rows kind edition : ℕ) (s : List ℕ) (new : ℕ) → Within (changeCall a d rows kind edition s new)
 unfolding changeCall changeIn
-change-call-within a d rows kind s new =
-    bind-within (kindSaid (kindOf kind)) (λ k. changeIn (layoutBy a d rows k) s new) (λ k.
-    bind-within (kindSaid (kindOf new)) (changeSaid (layoutBy a d rows k) s) (change-within (layoutBy a d rows k) s))
+change-call-within a d rows kind edition s new =
+    bind-within (layoutSaid (layoutOf a d rows kind edition)) (λ l. changeIn l s new) (λ l.
+    bind-within (kindSaid (kindOf new)) (changeSaid l s) (change-within l s))
 
 rewrite-within : (s : List ℕ) (k : Kind) → Within (rewriteSaid s k)
-rewrite-within s k room new e = rewritten-exactly s k room new .0 e .4
+rewrite-within s k room new e = rewritten-exactly s k room new .0 e .5
 
 write-config-within : (s : List ℕ) (kind : ℕ) → Within (writeConfigCall s kind)
 unfolding writeConfigCall
@@ -148,9 +151,9 @@ pub refused-unchanged :
     × ((n : ℕ) → Lent (reasonSaid n))
     -- zl_config, zl_row, zl_write_row, zl_change, zl_write_config
     × ((s : List ℕ) → Lent (configCall s))
-    × ((a d rows kind : ℕ) (s : List ℕ) (n : ℕ) → Lent (rowCall a d rows kind s n))
-    × ((a d rows kind n : ℕ) (zs : List ℤ) → Lent (writeCall a d rows kind n zs))
-    × ((a d rows kind : ℕ) (s : List ℕ) (new : ℕ) → Lent (changeCall a d rows kind s new))
+    × ((a d rows kind edition : ℕ) (s : List ℕ) (n : ℕ) → Lent (rowCall a d rows kind edition s n))
+    × ((a d rows kind edition n : ℕ) (zs : List ℤ) → Lent (writeCall a d rows kind edition n zs))
+    × ((a d rows kind edition : ℕ) (s : List ℕ) (new : ℕ) → Lent (changeCall a d rows kind edition s new))
     × ((s : List ℕ) (kind : ℕ) → Lent (writeConfigCall s kind))
 refused-unchanged = (
   (λ l n r. lent (writeSaid l n r) (write-within l n r)),
@@ -158,9 +161,9 @@ refused-unchanged = (
   (λ s k. lent (rewriteSaid s k) (rewrite-within s k)),
   (λ n. lent (reasonSaid n) (reason-within n)),
   (λ s. lent (configCall s) (config-within s)),
-  (λ a d rows kind s n. lent (rowCall a d rows kind s n) (row-call-within a d rows kind s n)),
-  (λ a d rows kind n zs. lent (writeCall a d rows kind n zs) (write-call-within a d rows kind n zs)),
-  (λ a d rows kind s new. lent (changeCall a d rows kind s new) (change-call-within a d rows kind s new)),
+  (λ a d rows kind edition s n. lent (rowCall a d rows kind edition s n) (row-call-within a d rows kind edition s n)),
+  (λ a d rows kind edition n zs. lent (writeCall a d rows kind edition n zs) (write-call-within a d rows kind edition n zs)),
+  (λ a d rows kind edition s new. lent (changeCall a d rows kind edition s new) (change-call-within a d rows kind edition s new)),
   (λ s kind. lent (writeConfigCall s kind) (write-config-within s kind)),
 )
 
@@ -205,20 +208,23 @@ then-refuses (says u) (says v) z r e = clash (cc)
 then-refuses (says u) (refuses q) z r e = let w : q ≡ r = cc e in ap refuses w
 then-refuses (refuses q) y z r e = let w : q ≡ r = cc e in ap refuses w
 
--- DEMAND 1. What the check of a file refuses, showing a row of it, the length question and the change refuse with the same number and place
+-- DEMAND 1. What the check of a file refuses, showing a row of it, the length question and the change to a kind of its edition refuse with the same number and place
 pub alike : (l : Layout) (s : List ℕ) (r : Refusal) → checkFile l s ≡ No r
     → ((n : ℕ) → hasRow l n ≡ true → showRow l s n ≡ record { answer = No r; row = zeroRow })
-    × ((k : Kind) → bytesNeeded l s k ≡ refuses r)
-    × ((k : Kind) (room : ℕ) → changeSaid l s k room ≡ refuses r)
+    × ((k : Kind) → hasKind (l .edition) k ≡ true → bytesNeeded l s k ≡ refuses r)
+    × ((k : Kind) (room : ℕ) → hasKind (l .edition) k ≡ true → changeSaid l s k room ≡ refuses r)
 unfolding checkFile showRow bytesNeeded changeSaid
 alike l s r e =
     let x = must (isSized l) (refused 10 0 0) in
     let c : (x >> fileFine l s) ≡ refuses r = no-told (x >> fileFine l s) r e in (
       (λ n h. rw (h, then-refuses x (fileFine l s) (says (rowAt l s (n - 1))) r c)),
-      (λ k. then-refuses x (fileFine l s) (fitRows (inKind k l) (rowAt l s) 0 (l .rows) >> says (length (changed l s k))) r c),
-      (λ k room.
-          then-refuses x (fileFine l s)
-          (fitRows (inKind k l) (rowAt l s) 0 (l .rows) >> (must (leb (length (changed l s k)) room) (refused 17 0 0) >> says (changed l s k))) r c),
+      (λ k has. rw (has, then-refuses x (fileFine l s) (fitRows (inKind k l) (rowAt l s) 0 (l .rows) >> says (length (changed l s k))) r c)),
+      (λ k room has.
+          rw (
+            has,
+            then-refuses x (fileFine l s)
+                (fitRows (inKind k l) (rowAt l s) 0 (l .rows) >> (must (leb (length (changed l s k)) room) (refused 17 0 0) >> says (changed l s k))) r c,
+          )),
     )
 
 -- DEMAND 1. A row that there is not: 15, whatever the file
@@ -258,9 +264,11 @@ unfolding bytesNeeded
 needed-only l s k =
     let rows = fitRows (inKind k l) (rowAt l s) 0 (l .rows) in
     let last = says (length (changed l s k)) in
-    only-then (PlacedTo 16) (must (isSized l) (refused 10 0 0)) (fileFine l s >> (rows >> last)) (sized-only l) (λ e.
+    let kind = must (hasKind (l .edition) k) (refused 10 0 0) in
+    only-then (PlacedTo 16) (must (isSized l) (refused 10 0 0)) (kind >> (fileFine l s >> (rows >> last))) (sized-only l) (λ e.
+    only-then (PlacedTo 16) kind (fileFine l s >> (rows >> last)) (only-must (PlacedTo 16) (hasKind (l .edition) k) (refused 10 0 0) (λ h. (sizes-or-kind, lit≤ tt))) (λ h.
     only-then (PlacedTo 16) (fileFine l s) (rows >> last) (file-placed l s) (λ f.
-    only-then (PlacedTo 16) rows last (fits-placed (inKind k l) (rowAt l s) 0 (l .rows)) (λ g. tt)))
+    only-then (PlacedTo 16) rows last (fits-placed (inKind k l) (rowAt l s) 0 (l .rows)) (λ g. tt))))
 
 -- DEMAND 1. The length question never says 17
 pub never-17 : (l : Layout) (s : List ℕ) (k : Kind) (r : Refusal) → bytesNeeded l s k ≡ refuses r → r .number ≡ 17 → ⊥
@@ -313,6 +321,10 @@ kind-only : (k : KindNo) → RefusesOnly Placed (kindSaid k)
 kind-only (number.Is k) = tt
 kind-only number.None = sizes-or-kind
 
+layout-only : (l : LayoutNo) → RefusesOnly Placed (layoutSaid l)
+layout-only (layout.Is l) = tt
+layout-only layout.None = sizes-or-kind
+
 placed-only : {A : Type 0} (count : ℕ) (zs : List A) (room : ℕ) → RefusesOnly Placed (placed count zs room)
 placed-only count zs room =
     only-then Placed (must (leb count room) (refused 17 0 0)) (says zs) (only-must Placed (leb count room) (refused 17 0 0) (λ e. no-room)) (λ e. tt)
@@ -352,46 +364,48 @@ reason-only n room =
 -- the exported calls
 config-call-only : (s : List ℕ) (room : ℕ) → RefusesOnly Placed (configCall s room)
 unfolding configCall
-config-call-only s room = only-bind Placed (configSaid (readConfig s)) (λ c. placed 34 (configPlaces c) room) (config-only s) (λ c e. placed-only 34 (configPlaces c) room)
+config-call-only s room = only-bind Placed (configSaid (readConfig s)) (λ c. placed 35 (configPlaces c) room) (config-only s) (λ c e. placed-only 35 (configPlaces c) room)
 
 -- of a kind by its number
 by-number : {A : Type 0} (kind : ℕ) (f : Kind → Said Refusal A) → ((k : Kind) → RefusesOnly Placed (f k)) → RefusesOnly Placed (kindSaid (kindOf kind) >>= f)
 by-number kind f p = only-bind Placed (kindSaid (kindOf kind)) f (kind-only (kindOf kind)) (λ k e. p k)
 
-check-call-only : (a d rows kind : ℕ) (s : List ℕ) → RefusesOnly Placed (checkCall a d rows kind s)
-unfolding checkCall
-check-call-only a d rows kind s =
-    by-number kind (λ k. answerSaid (checkFile (layoutBy a d rows k) s) >> says 0) (λ k.
-    only-then Placed (answerSaid (checkFile (layoutBy a d rows k) s)) (says 0) (accepted-only (layoutBy a d rows k) s) (λ e. tt))
+-- of a layout by its numbers
+by-layout : {A : Type 0} (l : LayoutNo) (f : Layout → Said Refusal A) → ((l : Layout) → RefusesOnly Placed (f l)) → RefusesOnly Placed (layoutSaid l >>= f)
+by-layout l f p = only-bind Placed (layoutSaid l) f (layout-only l) (λ k e. p k)
 
-row-call-only : (a d rows kind : ℕ) (s : List ℕ) (n room : ℕ) → RefusesOnly Placed (rowCall a d rows kind s n room)
+check-call-only : (a d rows kind edition : ℕ) (s : List ℕ) → RefusesOnly Placed (checkCall a d rows kind edition s)
+unfolding checkCall
+check-call-only a d rows kind edition s =
+    by-layout (layoutOf a d rows kind edition) (λ l. answerSaid (checkFile l s) >> says 0) (λ l.
+    only-then Placed (answerSaid (checkFile l s)) (says 0) (accepted-only l s) (λ e. tt))
+
+row-call-only : (a d rows kind edition : ℕ) (s : List ℕ) (n room : ℕ) → RefusesOnly Placed (rowCall a d rows kind edition s n room)
 unfolding rowCall rowIn
-row-call-only a d rows kind s n room =
-    by-number kind (λ k. rowIn (layoutBy a d rows k) s n room) (λ k.
-    let l = layoutBy a d rows k in
+row-call-only a d rows kind edition s n room =
+    by-layout (layoutOf a d rows kind edition) (λ l. rowIn l s n room) (λ l.
     only-bind Placed (rowSaid (showRow l s n)) (λ r. placed (placesOf l) (rowPlaces l r) room)
     (only-wider (PlacedTo 16) Placed (rowSaid (showRow l s n)) (λ r p. p .0) (show-only l s n))
     (λ r e. placed-only (placesOf l) (rowPlaces l r) room))
 
-write-call-only : (a d rows kind n : ℕ) (zs : List ℤ) (room : ℕ) → RefusesOnly Placed (writeCall a d rows kind n zs room)
+write-call-only : (a d rows kind edition n : ℕ) (zs : List ℤ) (room : ℕ) → RefusesOnly Placed (writeCall a d rows kind edition n zs room)
 unfolding writeCall writeIn
-write-call-only a d rows kind n zs room =
-    by-number kind (λ k. writeIn (layoutBy a d rows k) n zs room) (λ k.
-    let l = layoutBy a d rows k in
+write-call-only a d rows kind edition n zs room =
+    by-layout (layoutOf a d rows kind edition) (λ l. writeIn l n zs room) (λ l.
     only-bind Placed (rowAsked l n zs) (λ r. writeSaid l n r room) (asked-only l n zs) (λ r e. write-only l n r room))
 
-length-call-only : (a d rows kind : ℕ) (s : List ℕ) (new : ℕ) → RefusesOnly Placed (lengthCall a d rows kind s new)
+length-call-only : (a d rows kind edition : ℕ) (s : List ℕ) (new : ℕ) → RefusesOnly Placed (lengthCall a d rows kind edition s new)
 unfolding lengthCall neededIn
-length-call-only a d rows kind s new =
-    by-number kind (λ k. neededIn (layoutBy a d rows k) s new) (λ k.
-    by-number new (bytesNeeded (layoutBy a d rows k) s) (λ m.
-    only-wider (PlacedTo 16) Placed (bytesNeeded (layoutBy a d rows k) s m) (λ r p. p .0) (needed-only (layoutBy a d rows k) s m)))
+length-call-only a d rows kind edition s new =
+    by-layout (layoutOf a d rows kind edition) (λ l. neededIn l s new) (λ l.
+    by-number new (bytesNeeded l s) (λ m.
+    only-wider (PlacedTo 16) Placed (bytesNeeded l s m) (λ r p. p .0) (needed-only l s m)))
 
-change-call-only : (a d rows kind : ℕ) (s : List ℕ) (new room : ℕ) → RefusesOnly Placed (changeCall a d rows kind s new room)
+change-call-only : (a d rows kind edition : ℕ) (s : List ℕ) (new room : ℕ) → RefusesOnly Placed (changeCall a d rows kind edition s new room)
 unfolding changeCall changeIn
-change-call-only a d rows kind s new room =
-    by-number kind (λ k. changeIn (layoutBy a d rows k) s new room) (λ k.
-    by-number new (λ m. changeSaid (layoutBy a d rows k) s m room) (λ m. change-only (layoutBy a d rows k) s m room))
+change-call-only a d rows kind edition s new room =
+    by-layout (layoutOf a d rows kind edition) (λ l. changeIn l s new room) (λ l.
+    by-number new (λ m. changeSaid l s m room) (λ m. change-only l s m room))
 
 result-only : (new : List ℕ) (room : ℕ) → RefusesOnly Placed (resultSaid new room)
 unfolding resultSaid
@@ -401,7 +415,10 @@ result-only new room =
 
 rewrite-only : (s : List ℕ) (k : Kind) (room : ℕ) → RefusesOnly Placed (rewriteSaid s k room)
 unfolding rewriteSaid
-rewrite-only s k room = only-bind Placed (configSaid (readConfig s)) (λ c. resultSaid (rewritten c k s) room) (config-only s) (λ c e. result-only (rewritten c k s) room)
+rewrite-only s k room =
+    only-bind Placed (configSaid (readConfig s)) (λ c. must (hasKind (c .layout .edition) k) (refused 10 0 0) >> resultSaid (rewritten c k s) room) (config-only s) (λ c e.
+    only-then Placed (must (hasKind (c .layout .edition) k) (refused 10 0 0)) (resultSaid (rewritten c k s) room)
+    (only-must Placed (hasKind (c .layout .edition) k) (refused 10 0 0) (λ f. sizes-or-kind)) (λ f. result-only (rewritten c k s) room))
 
 write-config-only : (s : List ℕ) (kind room : ℕ) → RefusesOnly Placed (writeConfigCall s kind room)
 unfolding writeConfigCall
@@ -421,11 +438,11 @@ pub all-placed :
     × ((n room : ℕ) (r : Refusal) → reasonSaid n room ≡ refuses r → Placed r)
     -- zl_config, zl_check, zl_row, zl_write_row, zl_length, zl_change, zl_write_config
     × ((s : List ℕ) (room : ℕ) (r : Refusal) → configCall s room ≡ refuses r → Placed r)
-    × ((a d rows kind : ℕ) (s : List ℕ) (r : Refusal) → checkCall a d rows kind s ≡ refuses r → Placed r)
-    × ((a d rows kind : ℕ) (s : List ℕ) (n room : ℕ) (r : Refusal) → rowCall a d rows kind s n room ≡ refuses r → Placed r)
-    × ((a d rows kind n : ℕ) (zs : List ℤ) (room : ℕ) (r : Refusal) → writeCall a d rows kind n zs room ≡ refuses r → Placed r)
-    × ((a d rows kind : ℕ) (s : List ℕ) (new : ℕ) (r : Refusal) → lengthCall a d rows kind s new ≡ refuses r → Placed r)
-    × ((a d rows kind : ℕ) (s : List ℕ) (new room : ℕ) (r : Refusal) → changeCall a d rows kind s new room ≡ refuses r → Placed r)
+    × ((a d rows kind edition : ℕ) (s : List ℕ) (r : Refusal) → checkCall a d rows kind edition s ≡ refuses r → Placed r)
+    × ((a d rows kind edition : ℕ) (s : List ℕ) (n room : ℕ) (r : Refusal) → rowCall a d rows kind edition s n room ≡ refuses r → Placed r)
+    × ((a d rows kind edition n : ℕ) (zs : List ℤ) (room : ℕ) (r : Refusal) → writeCall a d rows kind edition n zs room ≡ refuses r → Placed r)
+    × ((a d rows kind edition : ℕ) (s : List ℕ) (new : ℕ) (r : Refusal) → lengthCall a d rows kind edition s new ≡ refuses r → Placed r)
+    × ((a d rows kind edition : ℕ) (s : List ℕ) (new room : ℕ) (r : Refusal) → changeCall a d rows kind edition s new room ≡ refuses r → Placed r)
     × ((s : List ℕ) (kind room : ℕ) (r : Refusal) → writeConfigCall s kind room ≡ refuses r → Placed r)
 all-placed = (
   (λ s r e. only-given Placed (configSaid (readConfig s)) r (rw e) (config-only s)),
@@ -437,11 +454,11 @@ all-placed = (
   (λ s k room r e. only-given Placed (rewriteSaid s k room) r e (rewrite-only s k room)),
   (λ n room r e. only-given Placed (reasonSaid n room) r e (reason-only n room)),
   (λ s room r e. only-given Placed (configCall s room) r e (config-call-only s room)),
-  (λ a d rows kind s r e. only-given Placed (checkCall a d rows kind s) r e (check-call-only a d rows kind s)),
-  (λ a d rows kind s n room r e. only-given Placed (rowCall a d rows kind s n room) r e (row-call-only a d rows kind s n room)),
-  (λ a d rows kind n zs room r e. only-given Placed (writeCall a d rows kind n zs room) r e (write-call-only a d rows kind n zs room)),
-  (λ a d rows kind s new r e. only-given Placed (lengthCall a d rows kind s new) r e (length-call-only a d rows kind s new)),
-  (λ a d rows kind s new room r e. only-given Placed (changeCall a d rows kind s new room) r e (change-call-only a d rows kind s new room)),
+  (λ a d rows kind edition s r e. only-given Placed (checkCall a d rows kind edition s) r e (check-call-only a d rows kind edition s)),
+  (λ a d rows kind edition s n room r e. only-given Placed (rowCall a d rows kind edition s n room) r e (row-call-only a d rows kind edition s n room)),
+  (λ a d rows kind edition n zs room r e. only-given Placed (writeCall a d rows kind edition n zs room) r e (write-call-only a d rows kind edition n zs room)),
+  (λ a d rows kind edition s new r e. only-given Placed (lengthCall a d rows kind edition s new) r e (length-call-only a d rows kind edition s new)),
+  (λ a d rows kind edition s new room r e. only-given Placed (changeCall a d rows kind edition s new room) r e (change-call-only a d rows kind edition s new room)),
   (λ s kind room r e. only-given Placed (writeConfigCall s kind room) r e (write-config-only s kind room)),
 )
 

@@ -5,6 +5,7 @@ pub mod Rewritten
 pub mod Placed
 pub mod Calls
 pub mod Exported
+pub mod Absent
 pub mod Recording
 pub mod Vectors
 pub mod Wrong

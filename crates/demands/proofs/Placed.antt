@@ -28,6 +28,8 @@ use Rattle.channel_lines.proofs.PlaceLaws.{channels-ruled, analog-ruled, status
 use Rattle.config_lines.proofs.PlaceLaws.{station-ruled, frequency-ruled, rates-ruled, rate-ruled, date-line-ruled, kind-line-ruled, multiplier-ruled, codes-ruled, quality-ruled}
 use Rattle.model.specs.declared.Kind.{Kind}
 use Rattle.model.specs.declared.Kind.the-variants.{Ascii, Binary, Binary32}
+use Rattle.model.specs.declared.Edition.{Edition}
+use Rattle.model.specs.declared.Edition.the-variants.{Y2013, Y1999}
 use Rattle.model.specs.declared.Layout.{Layout}
 use Rattle.model.specs.declared.Row.{Row}
 use Rattle.model.specs.declared.Refusal.{Refusal}
@@ -35,7 +37,7 @@ use Rattle.model.specs.Refusals.{refused}
 use Rattle.config_rules.specs.declared.Config.{Config}
 use Rattle.config.specs.Reading as reading
 use Rattle.config.specs.Reading.{Place, saidOf, inLine, scanned, line, lastLine, times}
-use Rattle.config.specs.Config.{lastRows, size, nothingMore, configuration}
+use Rattle.config.specs.Config.{lastRows, size, lastLines, nothingMore, configuration}
 use Rattle.binary_row.specs.Rows as binary
 use Rattle.binary_row.specs.Rows.{rowSize, rowNumber, wordsPart, paddingFree}
 use Rattle.binary_file.specs.Files as binary_file
@@ -247,6 +249,15 @@ unfolding Read
 read-asking true r p h k = h
 read-asking false r p h k = k
 
+-- the time multiplier and what follows it
+last-lines-read : (e : Edition) (p : Place) → 1 ≤ p .0 → Read (lastLines e p)
+last-lines-read Y1999 p h = read-bind (lastLine multiplierLine p) _ (read-last multiplierLine multiplier-ruled p h) (λ a ha. read-done _ (a .1) ha)
+last-lines-read Y2013 p h =
+    read-bind (line multiplierLine p) _ (read-line multiplierLine multiplier-ruled p h) (λ a ha.
+    read-bind (line codesLine (a .1)) _ (read-line codesLine codes-ruled (a .1) ha) (λ b hb.
+    read-bind (lastLine qualityLine (b .1)) _ (read-last qualityLine quality-ruled (b .1) hb) (λ c hc.
+    read-done _ (c .1) hc)))
+
 all-read : (p : Place) → 1 ≤ p .0 → Read (configuration p)
 unfolding configuration
 all-read p h =
@@ -260,12 +271,10 @@ all-read p h =
     read-bind (lastRows (eqb (f .0) 0) (max 1 (f .0)) 0 (f .1)) _ (read-lasts (eqb (f .0) 0) (max 1 (f .0)) 0 (f .1) hf) (λ g hg.
     read-bind (line dateLine (g .1)) _ (read-line dateLine date-line-ruled (g .1) hg) (λ i hi.
     read-bind (line dateLine (i .1)) _ (read-line dateLine date-line-ruled (i .1) hi) (λ j hj.
-    read-bind (line kindLine (j .1)) _ (read-line kindLine kind-line-ruled (j .1) hj) (λ k hk.
-    read-bind (line multiplierLine (k .1)) _ (read-line multiplierLine multiplier-ruled (k .1) hk) (λ l hl.
-    read-bind (line codesLine (l .1)) _ (read-line codesLine codes-ruled (l .1) hl) (λ m hm.
-    read-bind (lastLine qualityLine (m .1)) _ (read-last qualityLine quality-ruled (m .1) hm) (λ n hn.
+    read-bind (line (kindLine (a .0)) (j .1)) _ (read-line (kindLine (a .0)) (kind-line-ruled (a .0)) (j .1) hj) (λ k hk.
+    read-bind (lastLines (a .0) (k .1)) _ (last-lines-read (a .0) (k .1) hk) (λ n hn.
     read-bind (nothingMore (n .1)) _ (read-asking (eqb (length (n .1 .1)) 0) (refused 9 (n .1 .0) 0) (n .1) hn (bytes-after (n .1 .0) hn, lit≤ tt)) (λ o ho.
-    read-done _ (o .1) ho)))))))))))))))
+    read-done _ (o .1) ho)))))))))))))
 
 pub config-placed : (s : List ℕ) → RefusesOnly (PlacedTo 9) (saidOf (configuration (1, s)))
 unfolding Read

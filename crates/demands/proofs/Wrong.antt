@@ -20,6 +20,12 @@
 --     missing-fits-no-kind            a file with a missing sample is not changed
 --     spaces-taken-for-missing        a field of a space is taken as an empty one
 --     none-refused                    zl_write_row takes no missing sample
+--     mark-a-number, mark-missing-under-2013     99999 in a text is a number, or missing, whatever the edition
+--     empty-field-taken               an empty field is a missing sample, whatever the edition
+--     missing-left-empty              a missing sample is written as an empty field, whatever the edition
+--     edition-lost                    the change goes by 2013, whatever the edition
+--     every-kind-taken                a change is refused with 10 by the sizes alone
+--     last-lines-shown-as-zeros, year-1999-told-as-2013     what a configuration of 1999 shows
 --     refuses-every-writing           no configuration is written
 --     copies-the-configuration        a configuration is written as it stands, its old kind's word too
 --     shows-the-old-kind              what is written shows the kind that the configuration had
@@ -47,6 +53,8 @@ use Rattle.numerals.specs.Wholes.{signLength, hasMinus, withSign, signedNumber,
 use Rattle.numerals.specs.Decimals.{decimalIn, decimal, plain}
 use Rattle.model.specs.declared.Kind.{Kind}
 use Rattle.model.specs.declared.Kind.the-variants.{Ascii, Binary, Binary32}
+use Rattle.model.specs.declared.Edition.the-variants.{Y2013, Y1999}
+use Rattle.model.specs.Editions.{editionOf, hasKind}
 use Rattle.model.specs.declared.Layout.{Layout}
 use Rattle.model.specs.declared.Row.{Row}
 use Rattle.model.specs.declared.Refusal.{Refusal}
@@ -54,11 +62,13 @@ use Rattle.model.specs.declared.Answer.{Answer}
 use Rattle.model.specs.declared.Answer.the-variants.{Yes, No}
 use Rattle.model.specs.declared.Sample.the-variants.{Is, Missing}
 use Rattle.model.specs.Kinds.{kindOf}
-use Rattle.model.specs.Samples.{missing, isMissing, none, isNone, sampleOf, holds, fits, sampleOfWord, wordOfSample}
+use Rattle.model.specs.Samples.{missing, isMissing, none, isNone, sampleOf, holds, fits, sampleOfWord, wordOfSample, marked, isMark}
 use Rattle.model.specs.Layouts.{isSized, inKind}
 use Rattle.model.specs.Refusals.{refused}
 use Rattle.model.specs.Rows.{zeroRow, sampleAt, misfit}
 use Rattle.config_rules.specs.Shown.{withKind}
+use Rattle.config_rules.specs.declared.Last.{Last}
+use Rattle.config_rules.specs.declared.Last.the-variants.{Lines, Absent}
 use Rattle.config.specs.declared.ConfigAnswer.{ConfigAnswer}
 use Rattle.config.specs.Config.{readConfig}
 use Rattle.binary_row.specs.Rows as binary
@@ -66,7 +76,7 @@ use Rattle.binary_bytes.specs.Rows.{binaryOf, packed}
 use Rattle.binary_row.specs.Rows.{rowSize}
 use Rattle.binary_file.specs.Files as binary_file
 use Rattle.binary_file.specs.Files.{checkBinary, binaryRow}
-use Rattle.ascii_row.specs.Fields.{readTimestamp, readSample, isStatus, timeIn, sampleIn, statusIn}
+use Rattle.ascii_row.specs.Fields.{readTimestamp, isMissingField, readSample, isStatus, timeIn, sampleIn, statusIn}
 use Rattle.ascii_row.specs.Rows as ascii
 use Rattle.ascii_row.specs.Rows.{fieldFine, checkFields, checkNumber, checkLine}
 use Rattle.ascii_plain.specs.Rows.{sampleChars, lineOf, textOf}
@@ -79,12 +89,13 @@ use Rattle.change_length.specs.Needed.{fitRow, fitRows, bytesNeeded, changed}
 use Rattle.change.proofs.ChangeLaws.{change-needs}
 use Rattle.change_length.proofs.LengthLaws.{needed-length}
 use Rattle.row_places.specs.Rows.{placeSample, upTo, fitsSample, fitsPlace, unfit, rowOfPlaces}
+use Rattle.answers.specs.Answers.{layoutOf}
 use Rattle.calls_data.specs.Calls.{rowAsked, writeCall}
 use Rattle.rewrite.specs.Rewrite.{rewritten, rewriteSaid}
 use Rattle.exact_config.proofs.ExactLaws.{config-exactly}
 use Rattle.exact_rewrite.proofs.ExactLaws.{rewritten-exactly, written-accepted, never-long}
 use Rattle.demands.proofs.Calls.{never-17}
-use Rattle.demands.proofs.Recording.{recordingWith, recording, recordingShows, recording-accepted, recording-configuration, recording-code}
+use Rattle.demands.proofs.Recording.{recordingWith, recording, recording1999, lastWith, recordingShows, recording-accepted, accepted-1999, recording-configuration, recording-code}
 use Rattle.demands.proofs.Vectors.{layout, row, of-t1, t1, t2, t3, vectors}
 
 -- T1's rows
@@ -125,6 +136,13 @@ no-sample-wide = 0x01 ∷ replicate 7 0 ++ 0x00 ∷ 0x00 ∷ 0x00 ∷ 0x80 ∷ [
 abbrev no-sample-text : List ℕ
 no-sample-text = quoted "1,0,\r\n\u{1a}\r\n"
 
+-- the same layouts of 1999, and that row in its text
+abbrev of-1999 : ℕ → ℕ → ℕ → Kind → Layout
+of-1999 a d rows kind = record { analogs = a; statuses = d; rows = rows; kind = kind; edition = Y1999 }
+
+abbrev marked-text : List ℕ
+marked-text = quoted "1,0,99999\r\n\u{1a}\r\n"
+
 computed :
     -- T1 has two rows, in every kind
     ((checkFile (layout 1 1 1 Ascii) t1 ≡ No (refused 11 2 0))
@@ -159,19 +177,32 @@ computed :
     × (checkFile (layout 1 0 1 Ascii) (quoted "1,0, \r\n") ≡ No (refused 14 1 3))
     × (checkFile (layout 1 0 1 Ascii) (quoted "1,0,-2147483648\r\n") ≡ No (refused 14 1 3))
     × (changeSaid (layout 1 0 1 Ascii) (quoted "1,0,-32768\r\n") Binary 10 ≡ refuses (refused 16 1 3))
-    × (writeCall 1 0 1 1 1 (pos 0 ∷ none ∷ []) 10 ≡ says no-sample)
-    × (writeCall 1 0 1 2 1 (pos 0 ∷ missing ∷ []) 12 ≡ refuses (refused 16 1 3)))
-unfolding checkFile showRow writeSaid isSized hasRow fileFine rowAt checkText ascii_file.checkLines takeRow isEnding scanLine firstLine afterRows textRow fieldCount afterFields fieldAt
-    checkLine checkNumber checkFields fieldFine ascii.rowOf readTimestamp readSample isStatus timeIn sampleIn statusIn lengthIn isDigit numberOf readCount signLength hasMinus withSign signedNumber readWhole isLowest isMissing holds fits
+    × (writeCall 1 0 1 1 2013 1 (pos 0 ∷ none ∷ []) 10 ≡ says no-sample)
+    × (writeCall 1 0 1 2 2013 1 (pos 0 ∷ missing ∷ []) 12 ≡ refuses (refused 16 1 3)))
+    -- the two editions
+    × ((checkFile (of-1999 1 0 1 Ascii) marked-text ≡ Yes)
+    × (sampleAt 1 (showRow (of-1999 1 0 1 Ascii) marked-text 1 .row) ≡ Missing)
+    × (checkFile (layout 1 0 1 Ascii) marked-text ≡ Yes)
+    × (sampleAt 1 (showRow (layout 1 0 1 Ascii) marked-text 1 .row) ≡ Is (pos 99999))
+    × (checkFile (of-1999 1 0 1 Ascii) (quoted "1,0,\r\n") ≡ No (refused 14 1 3))
+    × (changeSaid (of-1999 1 0 1 Binary) no-sample Ascii 14 ≡ says marked-text)
+    × (changeSaid (layout 1 0 1 Binary) no-sample Ascii 14 ≡ says no-sample-text)
+    × (changeSaid (of-1999 1 0 1 Ascii) marked-text Binary32 14 ≡ refuses (refused 10 0 0))
+    × (writeCall 1 0 1 0 1999 1 (pos 0 ∷ none ∷ []) 11 ≡ says (take 11 marked-text))
+    × (writeCall 1 0 1 0 1999 1 (pos 0 ∷ pos 99999 ∷ []) 11 ≡ refuses (refused 16 1 3))
+    × (changeSaid (of-1999 1 0 1 Ascii) marked-text Ascii 14 ≡ says marked-text))
+unfolding checkFile showRow writeSaid isSized hasKind hasRow fileFine rowAt checkText ascii_file.checkLines takeRow isEnding scanLine firstLine afterRows textRow fieldCount afterFields fieldAt
+    checkLine checkNumber checkFields fieldFine ascii.rowOf readTimestamp isMissingField readSample isStatus timeIn sampleIn statusIn lengthIn isDigit numberOf readCount signLength hasMinus withSign signedNumber readWhole isLowest isMissing holds fits marked isMark
     changeSaid fitRows misfitOf misfit rowSize changed fileOf endMark bytesOf binaryOf packed wordBytes wordOf signedOf unsignedOf sampleOfWord wordOfSample
     checkBinary binary_file.checkRows binaryRow binary.rowOf binary.checkRow decimalIn decimal plain sampleChars lineOf textOf
-    sampleOf sampleAt kindOf writeCall rowAsked unfit fitsPlace fitsSample isNone upTo placeSample rowOfPlaces
+    sampleOf sampleAt kindOf editionOf layoutOf writeCall rowAsked unfit fitsPlace fitsSample isNone upTo placeSample rowOfPlaces
 computed = (
   (refl, refl, refl, refl, refl),
   (refl, refl, refl),
   (refl, refl, refl, refl),
   (refl, refl, refl, refl, refl, refl, refl, refl),
   (refl, refl, refl, refl, refl, refl, refl, refl, refl, refl),
+  (refl, refl, refl, refl, refl, refl, refl, refl, refl, refl, refl),
 )
 
 -- no answer is yes and no
@@ -208,7 +239,7 @@ refuses-every-configuration f =
     yes-no (readConfig recording .answer) (e .0) (ap (λ a. a .answer) recording-accepted) (e .1)
 
 pub accepts-every-file : ((l : Layout) (s : List ℕ) → isSized l ≡ true → checkFile l s ≡ Yes) → ⊥
-unfolding isSized
+unfolding isSized hasKind
 accepts-every-file f = yes-no (checkFile (layout 1 1 1 Ascii) t1) (refused 11 2 0) (f (layout 1 1 1 Ascii) t1 refl) (computed .0 .0)
 
 pub accepts-every-configuration : ((s : List ℕ) → length s ≤ 65536 → readConfig s .answer ≡ Yes) → ⊥
@@ -227,7 +258,7 @@ shows-row-1-always f =
 pub rows-from-the-length : (k : Kind)
     → ((a d rows m : ℕ) (s : List ℕ) → isSized (layout a d rows k) ≡ true → checkFile (layout a d m k) s ≡ Yes → checkFile (layout a d rows k) s ≡ Yes)
     → ⊥
-unfolding isSized
+unfolding isSized hasKind
 rows-from-the-length Ascii f = yes-no (checkFile (layout 1 1 1 Ascii) t1) (refused 11 2 0) (f 1 1 1 2 t1 refl (vectors .0 .1)) (computed .0 .0)
 rows-from-the-length Binary f = yes-no (checkFile (layout 1 1 1 Binary) t2) (refused 11 0 0) (f 1 1 1 2 t2 refl (vectors .1 .3)) (computed .0 .2)
 rows-from-the-length Binary32 f = yes-no (checkFile (layout 1 1 1 Binary32) t3) (refused 11 0 0) (f 1 1 1 2 t3 refl (vectors .2 .3)) (computed .0 .3)
@@ -235,13 +266,13 @@ rows-from-the-length Binary32 f = yes-no (checkFile (layout 1 1 1 Binary32) t3) 
 pub a-row-more-accepted : ((a d rows : ℕ) (k : Kind) (s : List ℕ) → isSized (layout a d rows k) ≡ true → checkFile (layout a d (rows + 1) k) s ≡ Yes
     → checkFile (layout a d rows k) s ≡ Yes)
     → ⊥
-unfolding isSized
+unfolding isSized hasKind
 a-row-more-accepted f = yes-no (checkFile (layout 1 1 1 Ascii) t1) (refused 11 2 0) (f 1 1 1 Ascii t1 refl (vectors .0 .1)) (computed .0 .0)
 
 pub a-row-less-accepted : ((a d rows : ℕ) (k : Kind) (s : List ℕ) → isSized (layout a d (rows + 1) k) ≡ true → checkFile (layout a d rows k) s ≡ Yes
     → checkFile (layout a d (rows + 1) k) s ≡ Yes)
     → ⊥
-unfolding isSized
+unfolding isSized hasKind
 a-row-less-accepted f = yes-no (checkFile (layout 1 1 3 Ascii) t1) (refused 14 3 0) (f 1 1 2 Ascii t1 refl (vectors .0 .1)) (computed .0 .1)
 
 pub writes-nothing : ((l : Layout) (n : ℕ) (r : Row) (out : List ℕ) → over (writeSaid l n r (length out)) out ≡ out) → ⊥
@@ -365,15 +396,48 @@ pub spaces-taken-for-missing : ((l : Layout) (s : List ℕ) → checkFile l (quo
 spaces-taken-for-missing f =
     yes-no (checkFile (layout 1 0 1 Ascii) (quoted "1,0, \r\n")) (refused 14 1 3) (f (layout 1 0 1 Ascii) (quoted "\r\n") (computed .4 .4)) (computed .4 .5)
 
-pub none-refused : ((a d rows kind n room : ℕ) (zs : List ℤ) → getD zs 1 (pos 0) ≡ none → (r : Refusal) × (writeCall a d rows kind n zs room ≡ refuses r)) → ⊥
+pub none-refused : ((a d rows kind edition n room : ℕ) (zs : List ℤ) → getD zs 1 (pos 0) ≡ none → (r : Refusal) × (writeCall a d rows kind edition n zs room ≡ refuses r)) → ⊥
 none-refused f =
-    let e = f 1 0 1 1 1 10 (pos 0 ∷ none ∷ []) refl in
+    let e = f 1 0 1 1 2013 1 10 (pos 0 ∷ none ∷ []) refl in
     let q : says no-sample ≡ refuses (e .0) = sym (computed .4 .8) ∙ e .1 in
     clash (cc)
 
+pub mark-a-number : ((l : Layout) → checkFile l marked-text ≡ Yes → sampleAt 1 (showRow l marked-text 1 .row) ≡ Is (pos 99999)) → ⊥
+mark-a-number f = let q : Missing ≡ Is (pos 99999) = sym (computed .5 .1) ∙ f (of-1999 1 0 1 Ascii) (computed .5 .0) in clash (cc)
+
+pub mark-missing-under-2013 : ((l : Layout) → checkFile l marked-text ≡ Yes → sampleAt 1 (showRow l marked-text 1 .row) ≡ Missing) → ⊥
+mark-missing-under-2013 f = let q : Is (pos 99999) ≡ Missing = sym (computed .5 .3) ∙ f (layout 1 0 1 Ascii) (computed .5 .2) in clash (cc)
+
+pub empty-field-taken : ((a d rows : ℕ) (k : Kind) (s : List ℕ) → checkFile (layout a d rows k) s ≡ Yes → checkFile (of-1999 a d rows k) s ≡ Yes) → ⊥
+empty-field-taken f =
+    yes-no (checkFile (of-1999 1 0 1 Ascii) (quoted "1,0,\r\n")) (refused 14 1 3) (f 1 0 1 Ascii (quoted "1,0,\r\n") (computed .4 .4)) (computed .5 .4)
+
+pub edition-lost : ((a d rows : ℕ) (k m : Kind) (s : List ℕ) (room : ℕ) → changeSaid (of-1999 a d rows k) s m room ≡ changeSaid (layout a d rows k) s m room) → ⊥
+edition-lost f =
+    let q : says marked-text ≡ says no-sample-text = sym (computed .5 .5) ∙ f 1 0 1 Binary Ascii no-sample 14 ∙ computed .5 .6 in
+    let w : marked-text ≡ no-sample-text = cc in
+    differ marked-text no-sample-text 4 refl w
+
+pub missing-left-empty : ((l : Layout) (s u : List ℕ) (room : ℕ) → sampleAt 1 (showRow l s 1 .row) ≡ Missing → changeSaid l s Ascii room ≡ says u → getD u 4 0 ≡ 13) → ⊥
+missing-left-empty f = eqb-false 57 13 refl (f (of-1999 1 0 1 Ascii) marked-text marked-text 14 (computed .5 .1) (computed .5 .10))
+
+pub every-kind-taken : ((l : Layout) (s : List ℕ) (k : Kind) (room : ℕ) (r : Refusal) → checkFile l s ≡ Yes → changeSaid l s k room ≡ refuses r → (r .number ≡ 10 → ⊥)) → ⊥
+every-kind-taken f = f (of-1999 1 0 1 Ascii) marked-text Binary32 14 (refused 10 0 0) (computed .5 .0) (computed .5 .7) refl
+
+-- the recording of the rules as one of 1999
+pub last-lines-shown-as-zeros : readConfig recording1999 .config .last ≡ lastWith (pos 0) → ⊥
+last-lines-shown-as-zeros e = let q : Absent ≡ lastWith (pos 0) = sym (ap (λ (a : ConfigAnswer). a .config .last) accepted-1999) ∙ e in clash (cc)
+
+pub year-1999-told-as-2013 : readConfig recording1999 .config .layout .edition ≡ Y2013 → ⊥
+year-1999-told-as-2013 e = let q : Y1999 ≡ Y2013 = sym (ap (λ (a : ConfigAnswer). a .config .layout .edition) accepted-1999) ∙ e in clash (cc)
+
 -- the recording of the rules, with the time code -0h30
-pub minus-lost : readConfig (recordingWith "03/02/2024" "-0h30,0") .config .code ≡ pos 30 → ⊥
-minus-lost e = let q : negℤ (pos 30) ≡ pos 30 = sym recording-code ∙ e in clash (cc q)
+pub minus-lost : readConfig (recordingWith "03/02/2024" "-0h30,0") .config .last ≡ lastWith (pos 30) → ⊥
+minus-lost e = let q : negℤ (pos 30) ≡ pos 30 = ap codeIn (sym recording-code ∙ e) in clash (cc q)
+  where
+    codeIn : Last → ℤ
+    codeIn (Lines x) = x .code
+    codeIn Absent = pos 0
 
 -- the recording of the rules: its first sample is 1 ms before its trigger
 pub first-and-trigger-exchanged : (readConfig recording .config .first .time .nanosecond ≡ 1_000_000) × (readConfig recording .config .trigger .time .nanosecond ≡ 0) → ⊥
@@ -381,10 +445,11 @@ first-and-trigger-exchanged (e, g) = eqb-false 0 1_000_000 refl (sym (ap (λ a. 
 
 -- the recording of the rules, whose kind is ASCII, written as binary
 binary-written : (w : List ℕ) × (rewriteSaid recording Binary 172 ≡ says w)
+unfolding hasKind
 binary-written =
     let w = rewritten recordingShows Binary recording in
     let long : length w ≤ 172 = never-long recording recordingShows recording-configuration Binary .0 in
-    (w, rewritten-exactly recording Binary 172 w .1 (recordingShows, recording-configuration, refl, omega arith, long))
+    (w, rewritten-exactly recording Binary 172 w .1 (recordingShows, recording-configuration, refl, refl, omega arith, long))
 
 -- it shows binary
 binary-shown : readConfig (binary-written .0) .config .layout .kind ≡ Binary
@@ -411,5 +476,5 @@ copies-the-configuration h = shows-the-old-kind (λ s w k room e. ap (λ (x : Li
 pub asks-for-more-room : ((s w : List ℕ) (k : Kind) (room : ℕ) → rewriteSaid s k room ≡ says w → length w < room) → ⊥
 asks-for-more-room h =
     let w = binary-written .0 in
-    let (c, t, q, small, fits) = rewritten-exactly recording Binary 172 w .0 (binary-written .1) in
-    omega (arith, h recording w Binary (length w) (rewritten-exactly recording Binary (length w) w .1 (c, t, q, small, omega arith)))
+    let (c, t, has, q, small, fits) = rewritten-exactly recording Binary 172 w .0 (binary-written .1) in
+    omega (arith, h recording w Binary (length w) (rewritten-exactly recording Binary (length w) w .1 (c, t, has, q, small, omega arith)))

@@ -4,6 +4,7 @@
 --     word-kind, kind-word      one of the words is that of its kind, and of no other
 --     kind-exactly              a field is read as the kind k exactly when it is the word of k
 --     kind-form, kind-range     a wrong length, and a word of no kind
+--     has-exactly               an edition has a kind, unless it is 1999 and the kind binary32
 -- Assumes nothing.
 use mathlib.Core.Path.{_≡_, refl, sym, ap, subst, _∙_}
 use mathlib.Core.Logic.{_↔_, _⊎_, inl, inr}
@@ -21,6 +22,9 @@ use Rattle.numerals.specs.Counts.{lengthIn}
 use Rattle.numerals.proofs.CountLaws.{length-bounds, length-is}
 use Rattle.model.specs.declared.Kind.{Kind}
 use Rattle.model.specs.declared.Kind.the-variants.{Ascii, Binary, Binary32}
+use Rattle.model.specs.declared.Edition.{Edition}
+use Rattle.model.specs.declared.Edition.the-variants.{Y2013, Y1999}
+use Rattle.model.specs.Editions.{hasKind}
 use Rattle.fields.specs.declared.KindField.{KindField}
 use Rattle.fields.specs.declared.KindField.the-variants.{Is, Form, Range}
 use Rattle.fields.specs.Fields.{small, sameWord, readKind}
@@ -123,3 +127,10 @@ module _ (f : List ℕ) where
 
   pub kind-range : readKind f ≡ Range ↔ (TextField 5 8 f × ((k : Kind) → KindWord k f → ⊥))
   kind-range = range-none kinds (readKind f) (TextField 5 8 f) (λ a. wordKind) (λ a. isWord ≡ true) kind-reads (λ k. KindWord k f) kind-exactly
+
+pub has-exactly : (e : Edition) (k : Kind) → hasKind e k ≡ true ↔ (e ≡ Y1999 → k ≡ Binary32 → ⊥)
+unfolding hasKind
+has-exactly Y2013 k = (λ h q p. clash (cc), λ h. refl)
+has-exactly Y1999 Ascii = (λ h q p. clash (cc), λ h. refl)
+has-exactly Y1999 Binary = (λ h q p. clash (cc), λ h. refl)
+has-exactly Y1999 Binary32 = (λ h. clash (cc), λ h. absurd (h refl refl))

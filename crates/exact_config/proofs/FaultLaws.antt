@@ -1,6 +1,5 @@
 -- The checks of fields, exactly: a field has no fault exactly when it is what it must be.
 --     text-fine                       a text of least to most characters
---     year-fine                       the year 2013
 --     index-fine                      the index of channel i
 --     real-fine, frequency-fine       a real, whatever its sign; nothing or a real
 --     above-fine, rate-fine           a real above zero; a rate: zero where there are no rates, else above zero
@@ -24,16 +23,15 @@ use Rattle.numerals.specs.Counts.{lengthIn, readCount}
 use Rattle.numerals.proofs.CountLaws.{length-bounds, length-is}
 use Rattle.fields.specs.declared.Field.{Field}
 use Rattle.fields.specs.declared.Field.the-variants.{Is, Form, Range}
-use Rattle.fields.specs.Fields.{readYear, readState, readSide}
+use Rattle.fields.specs.Fields.{readState, readSide}
 use Rattle.reals.specs.declared.Real.{Real}
 use Rattle.reals.specs.declared.Real.the-variants as real
 use Rattle.reals.specs.Forms.{readReal}
-use Rattle.line_fields.specs.Faults.{valueOf, textFault, yearIs, yearFault, indexIs, indexFault, anyReal, realFault}
+use Rattle.line_fields.specs.Faults.{valueOf, textFault, indexIs, indexFault, anyReal, realFault}
 use Rattle.line_fields.specs.Faults.{frequencyFault, aboveZero, aboveFault, atZero, zeroFault, rateFault, sideFault, stateFault}
 use Rattle.paper.specs.Fields.{TextField, CountField, RealField, AnyReal}
 use Rattle.paper.specs.Lines.{rateSign}
 use Rattle.exact.proofs.CountLaws.{count-exactly}
-use Rattle.exact.proofs.FieldLaws.{year-is}
 use Rattle.exact.proofs.CharacterLaws.{side-exactly, state-exactly}
 use Rattle.exact.proofs.RealLaws.{real-exactly}
 
@@ -46,15 +44,6 @@ text-fine least most f = (
       (λ t. absurd (suc-ne-zero 4 (rw t at e))),
   λ t. rw (length-is least most f (t .long) (t .short)),
 )
-
--- 8 for another year, 5 for none
-only-2013 : (k : Count) → yearIs k ≡ 0 → k ≡ count.Is 2013
-only-2013 (count.Is y) e = on-test (eqb y 2013) (λ t. ap count.Is (eqb-true y 2013 t)) (λ t. absurd (suc-ne-zero 7 (rw t at e)))
-only-2013 count.Form e = absurd (suc-ne-zero 4 e)
-
-pub year-fine : (f : List ℕ) → yearFault f ≡ 0 ↔ (f ≡ quoted "2013")
-unfolding yearFault
-year-fine f = (λ e. year-is f .0 (only-2013 (readYear f) e), λ e. rw (year-is f .1 e))
 
 -- 7 for another index, 5 for none
 index-is : (i : ℕ) (k : Count) → indexIs i k ≡ 0 → k ≡ count.Is i

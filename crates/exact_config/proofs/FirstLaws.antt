@@ -7,7 +7,7 @@
 --     first-fault                   a configuration that is refused with 2 to 8 at line k first fails there
 -- Assumes nothing.
 use mathlib.Core.Path.{_≡_, refl, sym, ap, subst, _∙_}
-use mathlib.Core.Logic.{_↔_, _⊎_, inl, inr}
+use mathlib.Core.Logic.{_↔_, _⊎_, inl, inr, ⊎-elim}
 use mathlib.Core.Bool.{Bool, true, false}
 use mathlib.Core.List.{List, [], _∷_, _++_, append-assoc, append-nil}
 use Prim.Native.Nat.{ℕ, zero, suc, _+_, _-_, _≤_, _<_, max}
@@ -25,6 +25,8 @@ use Rattle.text.specs.Lines.{scanLine, scanLastLine}
 use Rattle.line_fields.specs.declared.Fault.{Fault}
 use Rattle.channel_lines.specs.Channels.{channelsLine, analogLine, statusLine}
 use Rattle.config_lines.specs.Lines.{stationLine, frequencyLine, ratesLine, rateLine, dateLine, kindLine, multiplierLine, codesLine, qualityLine}
+use Rattle.model.specs.declared.Edition.{Edition}
+use Rattle.model.specs.declared.Edition.the-variants.{Y2013, Y1999}
 use Rattle.model.specs.declared.Refusal.{Refusal}
 use Rattle.model.specs.declared.Answer.the-variants.{Yes, No}
 use Rattle.model.specs.Refusals.{refused}
@@ -32,13 +34,13 @@ use Rattle.config_rules.specs.declared.Config.{Config}
 use Rattle.config.specs.declared.ConfigAnswer.{ConfigAnswer}
 use Rattle.config.specs.Reading.{Place, Reader, saidOf, inLine, scanned, done, asking, line, lastLine, times}
 use Rattle.config.specs.Reading as paper
-use Rattle.config.specs.Config.{configAnswer, lastRows, configuration, noConfig, readConfig}
+use Rattle.config.specs.Config.{configAnswer, lastRows, lastLines, configuration, noConfig, readConfig}
 use Rattle.paper.specs.Lines.{Line, ended, StationLine, ChannelsLine, AnalogLine, StatusLine, FrequencyLine, RatesLine, rateSign, RateLine, DateLine, KindLine, MultiplierLine, CodesLine, QualityLine}
-use Rattle.paper.specs.Order.{Due, station, channels, frequency, rates, rate, first, trigger, kind, multiplier, codes, quality, statusDue, analogDue, rateDue, Right, RightLines, NoneRight, FailsAt}
+use Rattle.paper.specs.Order.{Due, station, channels, frequency, rates, rate, first, trigger, kind, multiplier, codes, quality, statusDue, analogDue, rateDue, Right, RightLines, MayEnd, NoneRight, FailsAt}
 use Rattle.exact_config.proofs.LineLaws.{station-line-exactly, channels-line-exactly, analog-line-exactly, status-line-exactly, frequency-line-exactly, rates-line-exactly}
 use Rattle.exact_config.proofs.LineLaws.{rate-line-exactly, date-line-exactly, kind-line-exactly, multiplier-line-exactly, codes-line-exactly, quality-line-exactly}
 use Rattle.exact_config.proofs.ConfigLaws.{said-parts, in-line-told, line-reads, last-reads}
-use Rattle.exact_config.proofs.ExactLaws.{moment, quality-some}
+use Rattle.exact_config.proofs.ExactLaws.{moment, multiplier-some, quality-some}
 
 -- from where x is due on s first fails at line k, the first line being n
 abbrev Fails : ℕ → Due → List ℕ → ℕ → Type 0
@@ -138,7 +140,7 @@ scanned-place rule n s a k u scan.Bad q = clash (cc)
 -- a line that is right where x is due exactly where it is P a, a line
 module _ {A : Type 0} (rule : List ℕ → Said Fault A) (P : A → List ℕ → Type 0) (exactly : (a : A) (l : List ℕ) → rule l ≡ says a ↔ P a l)
     (x : Due) (from : (l : List ℕ) (z : Due) → Right x l z → (a : A) × Line (P a) l) where
-  pub line-walks : (after : A → Due) → ((a : A) (l : List ℕ) → Line (P a) l → Right x l (after a)) → (x ≡ quality → ⊥) → Walks (line rule) x after
+  pub line-walks : (after : A → Due) → ((a : A) (l : List ℕ) → Line (P a) l → Right x l (after a)) → (MayEnd x → ⊥) → Walks (line rule) x after
   line-walks after to early =
       record {
         stops = record {
@@ -201,7 +203,7 @@ only-stops {A} {B} {r} {x} {next} h g =
 -- so many lines that say nothing; due i m is where m of them are due, the first of them i
 pub times-walks : (rule : ℕ → List ℕ → Said Fault (Unit {0})) (P : ℕ → List ℕ → Type 0) → ((i : ℕ) (l : List ℕ) → rule i l ≡ says tt ↔ P i l)
     → (due : ℕ → ℕ → Due) (end : Due) → ((i : ℕ) → due i 0 ≡ end) → ((i m : ℕ) (l : List ℕ) → Line (P i) l → Right (due i (suc m)) l (due (i + 1) m))
-    → ((i m : ℕ) (l : List ℕ) (z : Due) → Right (due i (suc m)) l z → Line (P i) l) → ((i m : ℕ) → due i (suc m) ≡ quality → ⊥)
+    → ((i m : ℕ) (l : List ℕ) (z : Due) → Right (due i (suc m)) l z → Line (P i) l) → ((i m : ℕ) → MayEnd (due i (suc m)) → ⊥)
     → (m i : ℕ) → Walks (times m i (λ i. line (rule i))) (due i m) (λ u. end)
 times-walks rule P exactly due end over to from early zero i = subst (λ (y : Due). Walks (done tt) (due i 0) (λ u. y)) (over i) (done-walks tt (due i 0))
 times-walks rule P exactly due end over to from early (suc m) i =
@@ -210,13 +212,13 @@ times-walks rule P exactly due end over to from early (suc m) i =
     (λ u. times-walks rule P exactly due end over to from early m (i + 1))
 
 -- the lines of n rates
-pub lasts-walks : (n m before : ℕ) → Walks (lastRows (eqb n 0) m before) (rateDue n m before) (λ lasts. first)
-lasts-walks n zero before = done-walks [] first
-lasts-walks n (suc m) before =
+pub lasts-walks : (e : Edition) (n m before : ℕ) → Walks (lastRows (eqb n 0) m before) (rateDue e n m before) (λ lasts. first e)
+lasts-walks e n zero before = done-walks [] (first e)
+lasts-walks e n (suc m) before =
     bind-walks
-    (line-walks (rateLine (eqb n 0) before) (RateLine (rateSign n) before) (rate-line-exactly n before) (rate n m before) (λ l z r. (r .0, r .1))
-    (λ last. rateDue n m last) (λ last l g. (last, g, refl)) (λ q. clash (cc)))
-    (λ last. bind-walks (lasts-walks n m last) (λ others. done-walks (last ∷ others) first))
+    (line-walks (rateLine (eqb n 0) before) (RateLine (rateSign n) before) (rate-line-exactly n before) (rate e n m before) (λ l z r. (r .0, r .1))
+    (λ last. rateDue e n m last) (λ last l g. (last, g, refl)) (⊎-elim (λ q. clash (cc)) (λ q. clash (cc))))
+    (λ last. bind-walks (lasts-walks e n m last) (λ others. done-walks (last ∷ others) (first e)))
 
 -- 9, or nothing
 nothing-more : {A : Type 0} (c : A) (p : Place) (e : Refusal) → paper._>>_ (λ q. asking (eqb (length (q .1)) 0) (refused 9 (q .0) 0) q) (done c) p ≡ refuses e → OfLine e → ⊥
@@ -227,29 +229,38 @@ nothing-more c p e f o = nine (bind-cases (asking (eqb (length (p .1)) 0) (refus
     nine (inl h) = let w = ap (λ (r : Refusal). r .number) (asking-refused (eqb (length (p .1)) 0) (refused 9 (p .0) 0) e p h) in absurd (omega arith)
     nine (inr (q, h, g)) = clash (cc)
 
+-- the time multiplier, and what follows it
+last-lines-stop : (e : Edition) → Stops (lastLines e) (multiplier e)
+last-lines-stop Y1999 =
+    only-stops (last-stops multiplierLine (λ z. MultiplierLine) (λ z. multiplier-line-exactly) (multiplier Y1999) (λ l z r. (tt, r .0)) (λ z. multiplier-some)) (λ z p e f. clash (cc))
+last-lines-stop Y2013 =
+    bind-stops (line-walks multiplierLine (λ z. MultiplierLine) (λ z. multiplier-line-exactly) (multiplier Y2013) (λ l z r. (tt, r .0)) (λ z. codes) (λ z l g. (g, refl))
+    (⊎-elim (λ q. clash (cc)) (λ q. clash (cc)))) (λ z.
+    bind-stops (line-walks codesLine (λ v. CodesLine (v .0) (v .2) (v .1)) (λ v. codes-line-exactly (v .0) (v .2) (v .1)) codes (λ l z r. ((r .0, r .2, r .1), r .3))
+    (λ v. quality) (λ v l g. (v .0, v .2, v .1, g, refl)) (⊎-elim (λ q. clash (cc)) (λ q. clash (cc)))) (λ v.
+    only-stops (last-stops qualityLine (λ v. QualityLine (v .0) (v .1)) (λ v. quality-line-exactly (v .0) (v .1)) quality (λ l z r. ((r .0, r .1), r .2))
+    (λ v. quality-some (v .0) (v .1))) (λ w p e f. clash (cc))))
+
 config-stops : Stops configuration station
 unfolding configuration
 config-stops =
     bind-stops (asking-walks (λ s. leb (length s) 65536) (λ n. refused 1 0 0) station (λ n o. absurd (omega arith))) (λ z0.
-    bind-stops (line-walks stationLine (λ z. StationLine) (λ z. station-line-exactly) station (λ l z r. (tt, r .0)) (λ z. channels) (λ z l g. (g, refl)) (λ q. clash (cc))) (λ z1.
-    bind-stops (line-walks channelsLine (λ v. ChannelsLine (v .0) (v .1)) (λ v. channels-line-exactly (v .0) (v .1)) channels (λ l z r. ((r .0, r .1), r .2))
-    (λ v. analogDue 1 (v .0) (v .1)) (λ v l g. (v .0, v .1, g, refl)) (λ q. clash (cc))) (λ v2.
-    bind-stops (times-walks analogLine AnalogLine analog-line-exactly (λ i m. analogDue i m (v2 .1)) (statusDue 1 (v2 .1)) (λ i. refl)
-    (λ i m l g. (g, refl)) (λ i m l z r. r .0) (λ i m q. clash (cc)) (v2 .0) 1) (λ z3.
-    bind-stops (times-walks statusLine StatusLine status-line-exactly statusDue frequency (λ i. refl) (λ i m l g. (g, refl)) (λ i m l z r. r .0) (λ i m q. clash (cc)) (v2 .1) 1) (λ z4.
-    bind-stops (line-walks frequencyLine (λ z. FrequencyLine) (λ z. frequency-line-exactly) frequency (λ l z r. (tt, r .0)) (λ z. rates) (λ z l g. (g, refl)) (λ q. clash (cc))) (λ z5.
-    bind-stops (line-walks ratesLine RatesLine rates-line-exactly rates (λ l z r. (r .0, r .1)) (λ n. rateDue n (max 1 n) 0) (λ n l g. (n, g, refl)) (λ q. clash (cc))) (λ r.
-    bind-stops (lasts-walks r (max 1 r) 0) (λ lasts.
-    bind-stops (line-walks dateLine (λ v. DateLine (moment v)) (λ v. date-line-exactly (moment v)) first (λ l z r. ((r .0 .date, r .0 .time), r .1))
-    (λ v. trigger) (λ v l g. (moment v, g, refl)) (λ q. clash (cc))) (λ f.
-    bind-stops (line-walks dateLine (λ v. DateLine (moment v)) (λ v. date-line-exactly (moment v)) trigger (λ l z r. ((r .0 .date, r .0 .time), r .1))
-    (λ v. kind) (λ v l g. (moment v, g, refl)) (λ q. clash (cc))) (λ t.
-    bind-stops (line-walks kindLine KindLine kind-line-exactly kind (λ l z r. (r .0, r .1)) (λ k. multiplier) (λ k l g. (k, g, refl)) (λ q. clash (cc))) (λ k.
-    bind-stops (line-walks multiplierLine (λ z. MultiplierLine) (λ z. multiplier-line-exactly) multiplier (λ l z r. (tt, r .0)) (λ z. codes) (λ z l g. (g, refl)) (λ q. clash (cc))) (λ z11.
-    bind-stops (line-walks codesLine (λ v. CodesLine (v .0) (v .2) (v .1)) (λ v. codes-line-exactly (v .0) (v .2) (v .1)) codes (λ l z r. ((r .0, r .2, r .1), r .3))
-    (λ v. quality) (λ v l g. (v .0, v .2, v .1, g, refl)) (λ q. clash (cc))) (λ v12.
-    only-stops (last-stops qualityLine (λ v. QualityLine (v .0) (v .1)) (λ v. quality-line-exactly (v .0) (v .1)) quality (λ l z r. ((r .0, r .1), r .2))
-    (λ v. quality-some (v .0) (v .1))) (λ v13. nothing-more _))))))))))))))
+    bind-stops (line-walks stationLine StationLine station-line-exactly station (λ l z r. (r .0, r .1)) channels (λ e l g. (e, g, refl)) (⊎-elim (λ q. clash (cc)) (λ q. clash (cc)))) (λ e.
+    bind-stops (line-walks channelsLine (λ v. ChannelsLine (v .0) (v .1)) (λ v. channels-line-exactly (v .0) (v .1)) (channels e) (λ l z r. ((r .0, r .1), r .2))
+    (λ v. analogDue e 1 (v .0) (v .1)) (λ v l g. (v .0, v .1, g, refl)) (⊎-elim (λ q. clash (cc)) (λ q. clash (cc)))) (λ v2.
+    bind-stops (times-walks analogLine AnalogLine analog-line-exactly (λ i m. analogDue e i m (v2 .1)) (statusDue e 1 (v2 .1)) (λ i. refl)
+    (λ i m l g. (g, refl)) (λ i m l z r. r .0) (λ i m. ⊎-elim (λ q. clash (cc)) (λ q. clash (cc))) (v2 .0) 1) (λ z3.
+    bind-stops (times-walks statusLine StatusLine status-line-exactly (statusDue e) (frequency e) (λ i. refl) (λ i m l g. (g, refl)) (λ i m l z r. r .0)
+    (λ i m. ⊎-elim (λ q. clash (cc)) (λ q. clash (cc))) (v2 .1) 1) (λ z4.
+    bind-stops (line-walks frequencyLine (λ z. FrequencyLine) (λ z. frequency-line-exactly) (frequency e) (λ l z r. (tt, r .0)) (λ z. rates e) (λ z l g. (g, refl)) (⊎-elim (λ q. clash (cc)) (λ q. clash (cc)))) (λ z5.
+    bind-stops (line-walks ratesLine RatesLine rates-line-exactly (rates e) (λ l z r. (r .0, r .1)) (λ n. rateDue e n (max 1 n) 0) (λ n l g. (n, g, refl)) (⊎-elim (λ q. clash (cc)) (λ q. clash (cc)))) (λ r.
+    bind-stops (lasts-walks e r (max 1 r) 0) (λ lasts.
+    bind-stops (line-walks dateLine (λ v. DateLine (moment v)) (λ v. date-line-exactly (moment v)) (first e) (λ l z r. ((r .0 .date, r .0 .time), r .1))
+    (λ v. trigger e) (λ v l g. (moment v, g, refl)) (⊎-elim (λ q. clash (cc)) (λ q. clash (cc)))) (λ f.
+    bind-stops (line-walks dateLine (λ v. DateLine (moment v)) (λ v. date-line-exactly (moment v)) (trigger e) (λ l z r. ((r .0 .date, r .0 .time), r .1))
+    (λ v. kind e) (λ v l g. (moment v, g, refl)) (⊎-elim (λ q. clash (cc)) (λ q. clash (cc)))) (λ t.
+    bind-stops (line-walks (kindLine e) (KindLine e) (kind-line-exactly e) (kind e) (λ l z r. (r .0, r .1)) (λ k. multiplier e) (λ k l g. (k, g, refl)) (⊎-elim (λ q. clash (cc)) (λ q. clash (cc)))) (λ k.
+    only-stops (last-lines-stop e) (λ last. nothing-more _))))))))))))
 
 refused-said : (x : Said Refusal (Config × Place)) (r : Refusal) → configAnswer (saidOf x) ≡ record { answer = No r; config = noConfig } → x ≡ refuses r
 refused-said (says (c, p)) r e = let q : Yes ≡ No r = ap (λ (a : ConfigAnswer). a .answer) e in clash (cc)

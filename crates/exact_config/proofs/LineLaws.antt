@@ -17,15 +17,15 @@ use borrow.Author.Tests.{eq-eqb, eqb-true, lt-ltb, ltb-true, leb-true}
 use lib.Dec.{eqb, ltb, leb}
 use lib.IntN.{ℤ, pos}
 use Rattle.ground.specs.Said.{Said, says, _>>=_, _>>_, must}
-use Rattle.ground.proofs.Cases.{clash}
+use Rattle.ground.proofs.Cases.{on-test, clash}
 use Rattle.ground.proofs.Every.{and-split}
 use Rattle.ground.proofs.SaidLaws.{must-holds, then-told, bind-told}
 use Rattle.text.specs.Fields.{fieldCount, fieldAt}
+use Rattle.numerals.specs.declared.Count.{Count}
+use Rattle.numerals.specs.declared.Count.the-variants as count
 use Rattle.fields.specs.declared.Field.{Field}
 use Rattle.fields.specs.declared.Field.the-variants as field
-use Rattle.fields.specs.declared.KindField.{KindField}
-use Rattle.fields.specs.declared.KindField.the-variants as kind
-use Rattle.fields.specs.Fields.{readCountIn, readLettered, readQuality, readLeap, readKind}
+use Rattle.fields.specs.Fields.{readCountIn, readLettered, readYear, readQuality, readLeap, readKind}
 use Rattle.reals.specs.declared.Exact.{Exact}
 use Rattle.reals.specs.declared.Real.the-variants as real
 use Rattle.reals.specs.declared.Limit.{Limit}
@@ -41,27 +41,30 @@ use Rattle.clock.specs.Dates.{readDate}
 use Rattle.clock.specs.Times.{readTime}
 use Rattle.codes.specs.Codes.{codeIn, readCode, readLocalCode}
 use Rattle.line_fields.specs.declared.Fault.{Fault}
-use Rattle.line_fields.specs.Faults.{textFault, yearFault, indexFault, realFault, frequencyFault, aboveFault, rateFault, sideFault, stateFault}
+use Rattle.line_fields.specs.Faults.{textFault, indexFault, realFault, frequencyFault, aboveFault, rateFault, sideFault, stateFault}
 use Rattle.line_fields.specs.Checks.{fault, hasFields, faultless, numberAt, value}
 use Rattle.channel_lines.specs.Channels.{limitAt, channelsLine, names, scale, limits, analogLine, statusLine}
-use Rattle.config_lines.specs.Lines.{dateAt, timeAt, kindAt, codeAt, localAt, stationLine, frequencyLine, ratesLine, rateLine, dateLine, kindLine, multiplierLine, codesLine, qualityLine}
+use Rattle.config_lines.specs.Lines.{editionAt, yearAt, dateAt, timeAt, ofEdition, kindAt, codeAt, localAt, stationLine, frequencyLine, ratesLine, rateLine, dateLine, kindLine, multiplierLine, codesLine, qualityLine}
 use Rattle.line_fields.proofs.ValueLaws.{number-told}
-use Rattle.config_lines.proofs.Laws.{date-told, time-told}
+use Rattle.config_lines.proofs.Laws.{date-told, time-told, kind-told}
 use Rattle.model.specs.declared.Kind.{Kind}
+use Rattle.model.specs.declared.Edition.{Edition}
+use Rattle.model.specs.declared.Edition.the-variants.{Y2013, Y1999}
+use Rattle.model.specs.Editions.{yearOf, editionOf, hasKind}
 use Rattle.config_rules.specs.declared.Moment.{Moment}
 use Rattle.paper.specs.Fields.{isBetween, CountIn, Limits}
 use Rattle.paper.specs.Fields as paper
 use Rattle.paper.specs.Lines.{Fields, ChannelNames, StationLine, ChannelsLine, AnalogLine, StatusLine, FrequencyLine, RatesLine}
 use Rattle.paper.specs.Lines.{rateSign, RateLine, DateLine, KindLine, MultiplierLine, LocalField, CodesLine, QualityLine}
 use Rattle.exact.proofs.CommaLaws.{fields-exactly, fields-of}
-use Rattle.exact.proofs.FieldLaws.{count-in-exactly, lettered-exactly}
+use Rattle.exact.proofs.FieldLaws.{count-in-exactly, lettered-exactly, year-is}
 use Rattle.exact.proofs.CharacterLaws.{quality-exactly, leap-exactly}
-use Rattle.exact.proofs.KindLaws.{kind-exactly}
+use Rattle.exact.proofs.KindLaws.{kind-exactly, has-exactly}
 use Rattle.exact.proofs.LimitLaws.{limits-exactly}
 use Rattle.exact.proofs.ClockLaws.{date-exactly}
 use Rattle.exact.proofs.TimeLaws.{time-exactly}
 use Rattle.exact.proofs.CodeLaws.{code-exactly, x-exactly}
-use Rattle.exact_config.proofs.FaultLaws.{text-fine, year-fine, index-fine, real-fine, frequency-fine, above-fine, rate-fine, side-fine, state-fine}
+use Rattle.exact_config.proofs.FaultLaws.{text-fine, index-fine, real-fine, frequency-fine, above-fine, rate-fine, side-fine, state-fine}
 
 pub record Says {R A : Type 0} (x : Said R A) (P : A → Type 0) : Type 0 where
   pub exactly : (a : A) → x ≡ says a ↔ P a
@@ -112,19 +115,38 @@ fields-here n f l h w =
     let (c, e) = fields-exactly n f l (leb-true 1 n (and-split (leb 1 n) (leb n n) h .0)) .0 w in
     (c, λ i t. let (a, b) = and-split (leb 1 i) (leb i n) t in e i (leb-true 1 i a) (leb-true i n b))
 
-pub station-line-exactly : (l : List ℕ) → stationLine l ≡ says tt ↔ StationLine l
+-- the edition that was found by its year
+edition-told : (k y : ℕ) (e : Edition) → editionAt k (editionOf y) ≡ says e → y ≡ yearOf e
+unfolding editionOf
+edition-told k y e =
+    on-test (eqb y 2013)
+    (λ t. rw t (λ q. let w : Y2013 ≡ e = cc in rw (← w) (eqb-true y 2013 t)))
+    (λ t. on-test (eqb y 1999)
+    (λ u. rw (t, u) (λ q. let w : Y1999 ≡ e = cc in rw (← w) (eqb-true y 1999 u)))
+    (λ u. rw (t, u) (λ q. clash (cc))))
+
+year-told : (k : ℕ) (b : Count) (e : Edition) → yearAt k b ≡ says e → b ≡ count.Is (yearOf e)
+year-told k (count.Is y) e q = ap count.Is (edition-told k y e q)
+year-told k count.Form e q = clash (cc)
+
+year-same : (k : ℕ) (e : Edition) → yearAt k (count.Is (yearOf e)) ≡ says e
+unfolding editionOf
+year-same k Y2013 = refl
+year-same k Y1999 = refl
+
+pub station-line-exactly : (e : Edition) (l : List ℕ) → stationLine l ≡ says e ↔ StationLine e l
 unfolding stationLine
-station-line-exactly l =
+station-line-exactly e l =
     let w =
     then-says (count-says 3 l)
     (then-says (fine-says 1 (textFault 0 64) l (text-fine 0 64 (fieldAt 1 l)))
     (then-says (fine-says 2 (textFault 0 64) l (text-fine 0 64 (fieldAt 2 l)))
-    (fine-says 3 yearFault l (year-fine (fieldAt 3 l)))))
+    (at-says (yearAt 3) (λ x. count.Is (yearOf x)) (year-told 3) (year-same 3) (readYear (fieldAt 3 l)) (λ x. year-is x (fieldAt 3 l)))))
     in (
-      λ e. let (c, (s, (d, y))) = w .exactly tt .0 e in record { f = λ i. fieldAt i l; fields = fields-of 3 l (omega arith) c; station = s; device = d; year = y },
+      λ q. let (c, (s, (d, y))) = w .exactly e .0 q in record { f = λ i. fieldAt i l; fields = fields-of 3 l (omega arith) c; station = s; device = d; year = y },
       λ s.
-          let (c, e) = fields-here 3 (s .f) l refl (s .fields) in
-          w .exactly tt .1 (rw (e 1 refl, e 2 refl, e 3 refl) (c, (s .station, (s .device, s .year)))),
+          let (c, q) = fields-here 3 (s .f) l refl (s .fields) in
+          w .exactly e .1 (rw (q 1 refl, q 2 refl, q 3 refl) (c, (s .station, (s .device, s .year)))),
     )
 
 pub channels-line-exactly : (a d : ℕ) (l : List ℕ) → channelsLine l ≡ says (a, d) ↔ ChannelsLine a d l
@@ -296,16 +318,22 @@ date-line-exactly m l =
           w .exactly (m .date, m .time) .1 (c, (m .date, rw (e 1 refl) (s .date), (m .time, rw (e 2 refl) (s .time), refl))),
     )
 
-kind-told : (k : ℕ) (b : KindField) (x : Kind) → kindAt k b ≡ says x → b ≡ kind.Is x
-kind-told k (kind.Is y) x e = cc
-kind-told k kind.Form x e = clash (cc)
-kind-told k kind.Range x e = clash (cc)
+kind-says : (e : Edition) (n : ℕ) (f : List ℕ) → Says (kindAt n (ofEdition e (readKind f))) (λ k. paper.KindWord k f × (hasKind e k ≡ true))
+kind-says e n f =
+    record {
+      exactly = λ k. (
+        λ q. let (a, b) = kind-told e n (readKind f) k q in (kind-exactly f k .0 a, b),
+        λ (a, b). rw (kind-exactly f k .1 a, b),
+      );
+    }
 
-pub kind-line-exactly : (k : Kind) (l : List ℕ) → kindLine l ≡ says k ↔ KindLine k l
+pub kind-line-exactly : (e : Edition) (k : Kind) (l : List ℕ) → kindLine e l ≡ says k ↔ KindLine e k l
 unfolding kindLine
-kind-line-exactly k l =
-    let w = one-field paper.KindWord l (at-says (kindAt 1) kind.Is (kind-told 1) (λ x. refl) (readKind (fieldAt 1 l)) (kind-exactly (fieldAt 1 l))) k in
-    (λ e. let (f, s, p) = w .0 e in record { f = f; fields = s; kind = p }, λ s. w .1 (s .f, s .fields, s .kind))
+kind-line-exactly e k l =
+    let w = one-field (λ x f. paper.KindWord x f × (hasKind e x ≡ true)) l (kind-says e 1 (fieldAt 1 l)) k in (
+      λ q. let (f, s, (a, b)) = w .0 q in record { f = f; fields = s; kind = a; has = has-exactly e k .0 b },
+      λ s. w .1 (s .f, s .fields, (s .kind, has-exactly e k .1 (s .has))),
+    )
 
 pub multiplier-line-exactly : (l : List ℕ) → multiplierLine l ≡ says tt ↔ MultiplierLine l
 unfolding multiplierLine

@@ -32,6 +32,7 @@ use Rattle.model.specs.declared.Layout.{Layout}
 use Rattle.model.specs.declared.Row.{Row}
 use Rattle.model.specs.declared.Sample.the-variants.{Is}
 use Rattle.model.specs.Kinds.{lowestOf, highestOf}
+use Rattle.model.specs.Editions.{hasKind}
 use Rattle.model.specs.Layouts.{isSized, Sized, inKind}
 use Rattle.model.specs.Refusals.{refused}
 use Rattle.model.specs.Rows.{trimmed}
@@ -44,8 +45,9 @@ use Rattle.data.specs.Files.{fileFine, rowAt, misfitOf, endMark, fileOf}
 use Rattle.data.proofs.FileLaws as files
 use Rattle.data.proofs.FileLaws.{Writes}
 use Rattle.change.specs.Change.{changeSaid}
+use Rattle.change.proofs.ChangeLaws.{changing}
 use Rattle.change_length.specs.Needed.{fitRows, changed}
-use Rattle.paper.specs.Data.{InRange, rowSample, TextFile, DataFile}
+use Rattle.paper.specs.Data.{InRange, rowSample, TextFile, Allowed, DataFile}
 use Rattle.paper.specs.Written.{FitsIn, EndingOf, PlainText, Restored, AllInRange, FirstOutside}
 use Rattle.exact_data.proofs.NumberLaws.{fits-exactly, misfit-outside}
 use Rattle.exact_data.proofs.FileLaws.{as-text, RowsAre, fine-exactly, same-file}
@@ -63,7 +65,7 @@ module _ (l : Layout) (r : Row) where
 
   misfit-there : misfitOf l r < l .analogs
       → (rowSample r (misfitOf l r) ≡ Is (place (misfitOf l r)))
-      × ((place (misfitOf l r) <ℤ lowestOf (l .kind)) ⊎ (highestOf (l .kind) <ℤ place (misfitOf l r)))
+      × ((place (misfitOf l r) <ℤ lowestOf (l .kind) (l .edition)) ⊎ (highestOf (l .kind) (l .edition) <ℤ place (misfitOf l r)))
   unfolding misfitOf
   misfit-there h = misfit-outside l (place (misfitOf l r)) (misfit-first l (r .samples) h .1)
 
@@ -155,7 +157,7 @@ module _ (l : Layout) (k : Kind) (r : ℕ → Row) where
   not-fits : (i j : ℕ) → FirstOutside l k r i j → FitsIn new (rowSample (r i) j) → ⊥
   not-fits i j f h =
       let q : InRange new (f .number) = rw (f .there) at h in
-      ⊎-elim (λ (x : f .number <ℤ lowestOf k). clashℤ x (q .low)) (λ (x : highestOf k <ℤ f .number). clashℤ x (q .high)) (f .outside)
+      ⊎-elim (λ (x : f .number <ℤ lowestOf k (l .edition)). clashℤ x (q .low)) (λ (x : highestOf k (l .edition) <ℤ f .number). clashℤ x (q .high)) (f .outside)
 
   pub none-first : (i j : ℕ) → AllInRange l k r → FirstOutside l k r i j → ⊥
   none-first i j all f = not-fits i j f (all i j (f .row) (f .sample))
@@ -188,12 +190,12 @@ module _ (n : Layout) (f g : ℕ → Row) where
   file-ext h = ap (λ (x : List ℕ). x ++ endMark n) (cat-ext (λ i. bytesOf n (i + 1) (f i)) (λ i. bytesOf n (i + 1) (g i)) (n .rows) (λ i q. ap (bytesOf n (i + 1)) (h i q)))
 
 -- what the change says of a file that is fine and whose rows are r 0, r 1, ..
-pub said : (l : Layout) (r : ℕ → Row) (s : List ℕ) (k : Kind) (room : ℕ) → isSized l ≡ true → fileFine l s ≡ says tt → RowsAre l r s
+pub said : (l : Layout) (r : ℕ → Row) (s : List ℕ) (k : Kind) (room : ℕ) → isSized l ≡ true → hasKind (l .edition) k ≡ true → fileFine l s ≡ says tt → RowsAre l r s
     → changeSaid l s k room
     ≡ (fitRows (inKind k l) r 0 (l .rows) >> (must (leb (length (fileOf (inKind k l) r)) room) (refused 17 0 0) >> says (fileOf (inKind k l) r)))
 unfolding changeSaid changed
-said l r s k room ok fine rows =
-    rw (ok, fine, fit-ext (inKind k l) (rowAt l s) r 0 (l .rows) (λ j q. rows j (omega arith)), file-ext (inKind k l) (rowAt l s) r rows)
+said l r s k room ok has fine rows =
+    rw (ok, has, fine, fit-ext (inKind k l) (rowAt l s) r 0 (l .rows) (λ j q. rows j (omega arith)), file-ext (inKind k l) (rowAt l s) r rows)
 
 ending-there : (n : Layout) → EndingOf (n .kind) (endMark n)
 unfolding endMark
@@ -205,7 +207,10 @@ ending-there n = go (n .kind)
     go Binary32 = refl
 
 -- a data file
-module _ (l : Layout) (r : ℕ → Row) (s : List ℕ) (size : Sized l) (bytes : every isByte s ≡ true) (t : DataFile l r s) where
+module _ (l : Layout) (r : ℕ → Row) (s : List ℕ) (allowed : Allowed l) (bytes : every isByte s ≡ true) (t : DataFile l r s) where
+  size : Sized l
+  size = allowed .0
+
   fine : (fileFine l s ≡ says tt) × RowsAre l r s
   fine = fine-exactly l s size bytes r .1 t
 
@@ -218,10 +223,10 @@ module _ (l : Layout) (r : ℕ → Row) (s : List ℕ) (size : Sized l) (bytes :
   pub own-range : AllInRange l (l .kind) r
   own-range i j h q = row-fits-exactly l (r i) .0 (row-writes i h .all) j q
 
-  pub said-file : (k : Kind) (room : ℕ)
+  pub said-file : (k : Kind) (room : ℕ) → hasKind (l .edition) k ≡ true
       → changeSaid l s k room
       ≡ (fitRows (inKind k l) r 0 (l .rows) >> (must (leb (length (fileOf (inKind k l) r)) room) (refused 17 0 0) >> says (fileOf (inKind k l) r)))
-  said-file k room = said l r s k room (sized-is l size) (fine .0) (fine .1)
+  said-file k room has = said l r s k room (sized-is l size (allowed .1)) has (fine .0) (fine .1)
 
   -- every sample is in the range of kind k
   module _ (k : Kind) (all : AllInRange l k r) where
@@ -245,25 +250,25 @@ module _ (l : Layout) (r : ℕ → Row) (s : List ℕ) (size : Sized l) (bytes :
     unfolding fileOf
     new-bytes = bytes-stand (inKind k l) r (sized-in k l size) new-writes (endMark (inKind k l)) (ending-there (inKind k l))
 
-    pub new-said : (room : ℕ) → length (fileOf (inKind k l) r) ≤ room → changeSaid l s k room ≡ says (fileOf (inKind k l) r)
-    new-said room h = said-file k room ∙ rw (all-fit, le-leb (length (fileOf (inKind k l) r)) room h)
+    pub new-said : (room : ℕ) → hasKind (l .edition) k ≡ true → length (fileOf (inKind k l) r) ≤ room → changeSaid l s k room ≡ says (fileOf (inKind k l) r)
+    new-said room has h = said-file k room has ∙ rw (all-fit, le-leb (length (fileOf (inKind k l) r)) room h)
 
   own-fit : fitRows l r 0 (l .rows) ≡ says tt
   own-fit = all-fit (l .kind) own-range
 
-  pub back-said : (k : Kind) (room : ℕ) → AllInRange l k r → length (fileOf l r) ≤ room → changeSaid (inKind k l) (fileOf (inKind k l) r) (l .kind) room ≡ says (fileOf l r)
-  back-said k room all h =
+  pub back-said : (k : Kind) (room : ℕ) → hasKind (l .edition) k ≡ true → AllInRange l k r → length (fileOf l r) ≤ room → changeSaid (inKind k l) (fileOf (inKind k l) r) (l .kind) room ≡ says (fileOf l r)
+  back-said k room has all h =
       let n = inKind k l in
-      let ok = sized-is n (sized-in k l size) in
+      let ok = sized-is n (sized-in k l size) has in
       let w = new-writes k all in
       let q : changeSaid n (fileOf n r) (l .kind) room ≡ (fitRows l r 0 (l .rows) >> (must (leb (length (fileOf l r)) room) (refused 17 0 0) >> says (fileOf l r)))
-      = said n r (fileOf n r) (l .kind) room ok (files.fine-back n ok r w) (λ i j. files.row-back n ok r w i j ∙ new-trimmed k all i j) in
+      = said n r (fileOf n r) (l .kind) room ok (allowed .1) (files.fine-back n ok r w) (λ i j. files.row-back n ok r w i j ∙ new-trimmed k all i j) in
       q ∙ rw (own-fit, le-leb (length (fileOf l r)) room h)
 
   pub restored : Restored (l .kind) l r s (fileOf l r)
   restored =
       by-kind (l .kind)
-      (λ e. text (l .kind) e (as-text l r (fileOf l r) (l .kind) e .0 (new-file (l .kind) own-range)) (rw (files.file-text l e r) (plain-there l r)))
+      (λ e. text (l .kind) e (as-text l r (fileOf l r) (l .kind) e .0 (new-file (l .kind) own-range)) (rw (files.file-text l e r) (plain-there l r e)))
       (λ e. binary (l .kind) e (file-ext l r (rowAt l s) (λ i h. sym (fine .1 i h)) ∙ files.file-back l s bytes e (fine .0)))
     where
       text : (k : Kind) → k ≡ Ascii → TextFile l r (fileOf l r) → PlainText l (fileOf l r) → Restored k l r s (fileOf l r)
@@ -275,19 +280,19 @@ module _ (l : Layout) (r : ℕ → Row) (s : List ℕ) (size : Sized l) (bytes :
       binary Binary32 e x = x
 
   -- the new file, 17, or 16 at the first sample outside
-  pub told : (k : Kind) (room : ℕ)
+  pub told : (k : Kind) (room : ℕ) → hasKind (l .edition) k ≡ true
       → (AllInRange l k r × (length (fileOf (inKind k l) r) ≤ room) × (changeSaid l s k room ≡ says (fileOf (inKind k l) r)))
       ⊎ ((AllInRange l k r × (room < length (fileOf (inKind k l) r)) × (changeSaid l s k room ≡ refuses (refused 17 0 0)))
       ⊎ ((i : ℕ) × (j : ℕ) × FirstOutside l k r i j × (changeSaid l s k room ≡ refuses (refused 16 (i + 1) (3 + j)))))
-  told k room =
+  told k room has =
       let m = length (fileOf (inKind k l) r) in
       ⊎-elim
       (λ f.
       ⊎-elim
-      (λ (h : room < m). inr (inl (f .0, h, said-file k room ∙ rw (f .1, lt-leb m room h))))
-      (λ (h : m ≤ room). inl (f .0, h, new-said k (f .0) room h))
+      (λ (h : room < m). inr (inl (f .0, h, said-file k room has ∙ rw (f .1, lt-leb m room h))))
+      (λ (h : m ≤ room). inl (f .0, h, new-said k (f .0) room has h))
       (lt-or-ge room m))
-      (λ (f : Outside l k r). inr (inr (f .i, f .j, f .first, said-file k room ∙ rw (f .refusal))))
+      (λ (f : Outside l k r). inr (inr (f .i, f .j, f .first, said-file k room has ∙ rw (f .refusal))))
       (outcome l k r)
 
   pub said-bytes : (k : Kind) (room : ℕ) (u : List ℕ) → changeSaid l s k room ≡ says u → every isByte u ≡ true
@@ -295,4 +300,4 @@ module _ (l : Layout) (r : ℕ → Row) (s : List ℕ) (size : Sized l) (bytes :
       ⊎-elim
       (λ a. let p = a .2 in let q : fileOf (inKind k l) r ≡ u = cc in rw (← q) (new-bytes k (a .0)))
       (⊎-elim (λ a. let q = a .2 in clash (cc)) (λ a. let q = a .3 in clash (cc)))
-      (told k room)
+      (told k room (changing l s k room u e .has))

@@ -3,7 +3,7 @@
 --     same-file                  the same rows, where there are rows
 --     fine-exactly               a file is fine, and its rows are r 0, r 1, .., exactly when it is the data file of these rows
 --     one-file                   a file is the data file of one row of rows alone
---     data-exactly               a file is accepted, and these rows are shown, exactly when the layout is sized and it is the data file of these rows
+--     data-exactly               a file is accepted, and these rows are shown, exactly when the layout is allowed and it is the data file of these rows
 --     accepted-rows              an accepted file is the data file of the rows that it shows
 --     data-refused               a file is refused exactly when it is the data file of no rows
 --     row-shown                  row n is shown, and is q, exactly when the file is the data file of rows of which q is the n-th
@@ -31,7 +31,7 @@ use Rattle.model.specs.declared.Answer.the-variants.{Yes, No}
 use Rattle.model.specs.Layouts.{isSized, Sized}
 use Rattle.model.specs.Refusals.{refused}
 use Rattle.model.specs.Rows.{zeroRow}
-use Rattle.model.proofs.LayoutLaws.{sized, sized-is}
+use Rattle.model.proofs.LayoutLaws.{sized, sized-has, sized-is}
 use Rattle.binary_file.specs.Files.{checkBinary, binaryRow}
 use Rattle.ascii_file.specs.Files.{checkText, textRow}
 use Rattle.data.specs.declared.RowAnswer.{RowAnswer}
@@ -39,7 +39,7 @@ use Rattle.data.specs.Files.{fileFine, rowAt, hasRow, checkFile, rowAnswer, sho
 use Rattle.data.proofs.Laws.{row-told, accepted-fine}
 use Rattle.row_bytes.proofs.KindLaws.{text-kind, binary-kind, by-kind}
 use Rattle.paper.specs.Lines.{Line}
-use Rattle.paper.specs.Data.{TextLine, TextFile, BinaryRow, BinaryFile, FileOf, DataFile}
+use Rattle.paper.specs.Data.{TextLine, TextFile, BinaryRow, BinaryFile, Allowed, FileOf, DataFile}
 use Rattle.exact_data.proofs.BinaryLaws.{binary-exactly}
 use Rattle.exact_data.proofs.TextLaws.{text-exactly}
 
@@ -89,7 +89,7 @@ module _ (l : Layout) (s : List ℕ) (size : Sized l) (bytes : every isByte s �
   fine-text : (r : ℕ → Row) → l .kind ≡ Ascii → ((fileFine l s ≡ says tt) × RowsAre l r s) ↔ DataFile l r s
   unfolding fileFine rowAt
   fine-text r e =
-      fine-by r (checkText l s) (λ i. textRow l i s) (TextFile l r s) (text-exactly l r s)
+      fine-by r (checkText l s) (λ i. textRow l i s) (TextFile l r s) (text-exactly l e r s)
       (text-kind (l .kind) (checkText l s) (checkBinary l s) e) (λ i. text-kind (l .kind) (textRow l i s) (binaryRow l i s) e) (as-text l r s (l .kind) e)
 
   fine-binary : (r : ℕ → Row) → (l .kind ≡ Ascii → ⊥) → ((fileFine l s ≡ says tt) × RowsAre l r s) ↔ DataFile l r s
@@ -120,34 +120,34 @@ module _ (l : Layout) (s : List ℕ) (bytes : every isByte s ≡ true) where
       let e : i + 1 - 1 ≡ i = omega arith in
       rw e at (shows l s (i + 1) a f (has l (i + 1) (omega arith) (omega arith)))
 
-  data-to : (r : ℕ → Row) → checkFile l s ≡ Yes → ((i : ℕ) → i < l .rows → showRow l s (i + 1) ≡ rowAnswer (says (r i))) → Sized l × DataFile l r s
+  data-to : (r : ℕ → Row) → checkFile l s ≡ Yes → ((i : ℕ) → i < l .rows → showRow l s (i + 1) ≡ rowAnswer (says (r i))) → Allowed l × DataFile l r s
   data-to r e rows =
       let a = accepted-fine l s e in (
-        sized l (a .0),
+        (sized l (a .0), sized-has l (a .0)),
         fine-exactly l s (sized l (a .0)) bytes r .0
             (a .1, λ i h. ap (λ (x : RowAnswer). x .row) (sym (shows-next i (a .0) (a .1) h) ∙ rows i h)),
       )
 
-  data-from : (r : ℕ → Row) → Sized l → DataFile l r s → (checkFile l s ≡ Yes) × ((i : ℕ) → i < l .rows → showRow l s (i + 1) ≡ rowAnswer (says (r i)))
+  data-from : (r : ℕ → Row) → Allowed l → DataFile l r s → (checkFile l s ≡ Yes) × ((i : ℕ) → i < l .rows → showRow l s (i + 1) ≡ rowAnswer (says (r i)))
   unfolding checkFile
   data-from r z t =
-      let f = fine-exactly l s z bytes r .1 t in
-      let a = sized-is l z in
+      let f = fine-exactly l s (z .0) bytes r .1 t in
+      let a = sized-is l (z .0) (z .1) in
       (rw (a, f .0), λ i h. shows-next i a (f .0) h ∙ ap (λ (q : Row). rowAnswer (says q)) (f .1 i h))
 
   pub data-exactly : (r : ℕ → Row)
-      → ((checkFile l s ≡ Yes) × ((i : ℕ) → i < l .rows → showRow l s (i + 1) ≡ rowAnswer (says (r i)))) ↔ (Sized l × DataFile l r s)
+      → ((checkFile l s ≡ Yes) × ((i : ℕ) → i < l .rows → showRow l s (i + 1) ≡ rowAnswer (says (r i)))) ↔ (Allowed l × DataFile l r s)
   data-exactly r = (λ x. data-to r (x .0) (x .1), λ x. data-from r (x .0) (x .1))
 
   -- the data file of no rows
   abbrev pub NoFile : Type 0
-  NoFile = (r : ℕ → Row) → Sized l → DataFile l r s → ⊥
+  NoFile = (r : ℕ → Row) → Allowed l → DataFile l r s → ⊥
 
-  pub accepted-rows : checkFile l s ≡ Yes → Sized l × DataFile l (rowAt l s) s
+  pub accepted-rows : checkFile l s ≡ Yes → Allowed l × DataFile l (rowAt l s) s
   accepted-rows e =
       let a = accepted-fine l s e in
       let z = sized l (a .0) in
-      (z, fine-exactly l s z bytes (rowAt l s) .0 (a .1, λ i h. refl))
+      ((z, sized-has l (a .0)), fine-exactly l s z bytes (rowAt l s) .0 (a .1, λ i h. refl))
 
   accepted-file : checkFile l s ≡ Yes → NoFile → ⊥
   accepted-file e f = let t = accepted-rows e in f (rowAt l s) (t .0) (t .1)
@@ -175,7 +175,7 @@ module _ (l : Layout) (s : List ℕ) (bytes : every isByte s ≡ true) where
   said-shown n q (says p) e = ap (λ (y : RowAnswer). says (y .row)) e
   said-shown n q (refuses r) e = let y : No r ≡ Yes = ap (λ (y : RowAnswer). y .answer) e in clash (cc)
 
-  shown-to : (n : ℕ) (q : Row) → showRow l s n ≡ rowAnswer (says q) → (r : ℕ → Row) × Sized l × DataFile l r s × (1 ≤ n) × (n ≤ l .rows) × (q ≡ r (n - 1))
+  shown-to : (n : ℕ) (q : Row) → showRow l s n ≡ rowAnswer (says q) → (r : ℕ → Row) × Allowed l × DataFile l r s × (1 ≤ n) × (n ≤ l .rows) × (q ≡ r (n - 1))
   unfolding showRow
   shown-to n q e =
       let b = said-row n q (said-shown n q (sayRow n) e) in
@@ -184,12 +184,12 @@ module _ (l : Layout) (s : List ℕ) (bytes : every isByte s ≡ true) where
       let k = row-told l n (b .1) in
       (rowAt l s, t .0, t .1, k .0, k .1, ap (λ (y : RowAnswer). y .row) (sym e ∙ shows l s n (a .0) (a .1) (b .1)))
 
-  shown-from : (n : ℕ) (q : Row) → (r : ℕ → Row) × Sized l × DataFile l r s × (1 ≤ n) × (n ≤ l .rows) × (q ≡ r (n - 1)) → showRow l s n ≡ rowAnswer (says q)
+  shown-from : (n : ℕ) (q : Row) → (r : ℕ → Row) × Allowed l × DataFile l r s × (1 ≤ n) × (n ≤ l .rows) × (q ≡ r (n - 1)) → showRow l s n ≡ rowAnswer (says q)
   shown-from n q (r, z, t, h, k, w) =
-      let f = fine-exactly l s z bytes r .1 t in
-      shows l s n (sized-is l z) (f .0) (has l n h k) ∙ ap (λ (p : Row). rowAnswer (says p)) (f .1 (n - 1) (omega arith) ∙ sym w)
+      let f = fine-exactly l s (z .0) bytes r .1 t in
+      shows l s n (sized-is l (z .0) (z .1)) (f .0) (has l n h k) ∙ ap (λ (p : Row). rowAnswer (says p)) (f .1 (n - 1) (omega arith) ∙ sym w)
 
-  pub row-shown : (n : ℕ) (q : Row) → showRow l s n ≡ rowAnswer (says q) ↔ ((r : ℕ → Row) × Sized l × DataFile l r s × (1 ≤ n) × (n ≤ l .rows) × (q ≡ r (n - 1)))
+  pub row-shown : (n : ℕ) (q : Row) → showRow l s n ≡ rowAnswer (says q) ↔ ((r : ℕ → Row) × Allowed l × DataFile l r s × (1 ≤ n) × (n ≤ l .rows) × (q ≡ r (n - 1)))
   row-shown n q = (shown-to n q, shown-from n q)
 
   -- there is no row n
@@ -216,8 +216,8 @@ module _ (l : Layout) (s : List ℕ) (bytes : every isByte s ≡ true) where
       (λ (k : l .rows < n). inr (inr k))
       (λ (k : n ≤ l .rows).
       inl (λ r z u.
-      let f = fine-exactly l s z bytes r .1 u in
-      let e = shows l s n (sized-is l z) (f .0) (has l n h k) in
+      let f = fine-exactly l s (z .0) bytes r .1 u in
+      let e = shows l s n (sized-is l (z .0) (z .1)) (f .0) (has l n h k) in
       let q : No (t .0) ≡ Yes = ap (λ (x : RowAnswer). x .answer) (sym (t .1) ∙ e) in
       clash (cc)))
       (lt-or-ge (l .rows) n))

@@ -100,10 +100,10 @@ not-below a b =
 
 module _ (l : Layout) (z : ℤ) where
   abbrev low : ℤ
-  low = lowestOf (l .kind)
+  low = lowestOf (l .kind) (l .edition)
 
   abbrev high : ℤ
-  high = highestOf (l .kind)
+  high = highestOf (l .kind) (l .edition)
 
   pub range-exactly : holds l z ≡ true ↔ InRange l z
   unfolding holds

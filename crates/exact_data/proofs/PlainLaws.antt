@@ -14,6 +14,7 @@ use borrow.Author.Tests.{eq-eqb, ne-eqb, eqb-true, eqb-false, leb-true}
 use lib.Dec.{eqb, leb}
 use lib.IntN.{ℤ, pos}
 use lib.ListN.{length, getD}
+use Rattle.ground.specs.Choice.{if_then_else_}
 use Rattle.ground.specs.Quoted.{quoted}
 use Rattle.ground.specs.Tables.{every}
 use Rattle.ground.proofs.Cases.{on-test, clash}
@@ -21,16 +22,21 @@ use Rattle.ground.proofs.Every.{and-split, and-join}
 use Rattle.ground.proofs.Tables.{cat-ext}
 use Rattle.text.specs.Fields.{fieldAt}
 use Rattle.numerals.specs.Counts.{isDigit}
-use Rattle.numerals.specs.Decimals.{isPlainCount, isPlain}
+use Rattle.numerals.specs.Decimals.{plain, isPlainCount, isPlain}
 use Rattle.numerals.proofs.PlainLaws.{decimal-plain}
 use Rattle.numerals.proofs.WholeLaws as numbers
+use Rattle.model.specs.declared.Kind.{Kind}
+use Rattle.model.specs.declared.Kind.the-variants.{Ascii, Binary, Binary32}
+use Rattle.model.specs.declared.Edition.{Edition}
+use Rattle.model.specs.declared.Edition.the-variants.{Y2013, Y1999}
 use Rattle.model.specs.declared.Layout.{Layout}
 use Rattle.model.specs.declared.Row.{Row}
-use Rattle.model.specs.Samples.{isMissing}
+use Rattle.model.specs.Samples.{isMissing, markedIn, marked}
 use Rattle.ascii_row.specs.Rows.{fieldsOf}
 use Rattle.ascii_row.proofs.LineLaws.{line-told}
 use Rattle.ascii_plain.specs.Rows.{sampleChars, lineOf, textOf}
 use Rattle.ascii_plain.specs.Inner.{isPlainSample}
+use Rattle.ascii_plain.proofs.LengthLaws.{missing-none, missing-mark, chars-missing, chars-there}
 use Rattle.ascii_plain.proofs.LineLaws.{line-bytes-plain, fields-line, number-field, time-field, sample-field}
 use Rattle.ascii_file.specs.Files.{mark, textFile}
 use Rattle.ascii_file.proofs.PlainLaws.{line-again}
@@ -99,63 +105,74 @@ whole-from f (inr (d, e, p, h)) = rw e (and-join (isPlainCount d) (not (eqb (get
 pub plain-whole-exactly : (f : List ℕ) → isPlain f ≡ true ↔ PlainWhole f
 plain-whole-exactly f = (whole-to f, whole-from f)
 
-module _ (l : Layout) (f : List ℕ) where
-  sample-to : isPlainSample l f ≡ true → PlainSample f
-  unfolding isPlainSample
-  sample-to e = on-test (eqb (length f) 0) (λ t. inr (empty f (eqb-true (length f) 0 t))) (λ t. inl (whole-to f (rw t at e)))
-    where
-      empty : (f : List ℕ) → length f ≡ 0 → f ≡ []
-      empty [] h = refl
-      empty (b ∷ f) h = absurd (omega arith)
+empty : (f : List ℕ) → eqb (length f) 0 ≡ true → f ≡ []
+empty [] h = refl
+empty (b ∷ f) h = absurd (omega (arith, eqb-true (length (b ∷ f)) 0 h))
 
-  sample-from : PlainSample f → isPlainSample l f ≡ true
-  unfolding isPlainSample
-  sample-from (inl p) = on-test (eqb (length f) 0) (λ t. rw t) (λ t. rw (t, whole-from f p))
-  sample-from (inr e) = rw e
+-- a plain sample, by kind and edition
+plain-to : (k : Kind) (e : Edition) (f : List ℕ) → k ≡ Ascii → (if markedIn k e then isPlain f else (eqb (length f) 0 || isPlain f)) ≡ true → PlainSample e f
+plain-to Ascii Y2013 f t p = on-test (eqb (length f) 0) (λ n. inr (empty f n)) (λ n. inl (whole-to f (rw n at p)))
+plain-to Ascii Y1999 f t p = whole-to f p
+plain-to Binary e f t p = clash (cc)
+plain-to Binary32 e f t p = clash (cc)
 
-  pub plain-sample-exactly : isPlainSample l f ≡ true ↔ PlainSample f
-  plain-sample-exactly = (sample-to, sample-from)
+plain-from : (k : Kind) (e : Edition) (f : List ℕ) → k ≡ Ascii → PlainSample e f → (if markedIn k e then isPlain f else (eqb (length f) 0 || isPlain f)) ≡ true
+plain-from Ascii Y2013 f t (inl p) = on-test (eqb (length f) 0) (λ n. rw n) (λ n. rw (n, whole-from f p))
+plain-from Ascii Y2013 f t (inr n) = rw n
+plain-from Ascii Y1999 f t p = whole-from f p
+plain-from Binary e f t p = clash (cc)
+plain-from Binary32 e f t p = clash (cc)
+
+pub plain-sample-exactly : (l : Layout) (f : List ℕ) → l .kind ≡ Ascii → isPlainSample l f ≡ true ↔ PlainSample (l .edition) f
+unfolding isPlainSample marked
+plain-sample-exactly l f text = (plain-to (l .kind) (l .edition) f text, plain-from (l .kind) (l .edition) f text)
 
 -- what is written of a sample is plain
-chars-plain : (l : Layout) (z : ℤ) → PlainSample (sampleChars l z)
-unfolding sampleChars
-chars-plain l z = on-test (isMissing z) (λ t. rw t (inr refl)) (λ t. rw t (inl (whole-to _ (numbers.plain-is z))))
+plain-chars : (l : Layout) (z : ℤ) → isPlainSample l (sampleChars l z) ≡ true
+unfolding isPlainSample
+plain-chars l z =
+    on-test (isMissing z)
+    (λ t. rw (chars-missing l z t) (on-test (marked l) (λ m. rw (missing-mark l m, m) (numbers.plain-is (pos 99999))) (λ m. rw (missing-none l m, m))))
+    (λ t. rw (chars-there l z t, numbers.plain-is z) (on-test (marked l) (λ m. rw m) (λ m. rw m (on-test (eqb (length (plain z)) 0) (λ n. rw n) (λ n. rw n)))))
+
+chars-plain : (l : Layout) (z : ℤ) → l .kind ≡ Ascii → PlainSample (l .edition) (sampleChars l z)
+chars-plain l z text = plain-sample-exactly l (sampleChars l z) text .0 (plain-chars l z)
 
 -- a line that is fine, and plain, is what is written of its row
-line-is : (l : Layout) (n : ℕ) (r : Row) (line : List ℕ) → TextLine l n r line → PlainLine l line → lineOf l n r ≡ line
-line-is l n r line t p =
+line-is : (l : Layout) (n : ℕ) (r : Row) (line : List ℕ) → l .kind ≡ Ascii → TextLine l n r line → PlainLine l line → lineOf l n r ≡ line
+line-is l n r line text t p =
     let f = fields-exactly (fieldsOf l) (p .f) line (omega arith) .0 (p .fields) .1 in
-    let x = line-exactly l n line r .1 t in
+    let x = line-exactly l text n line r .1 t in
     ap (lineOf l n) (sym (x .1))
     ∙ line-again l n line (line-told l n line (x .0))
     (rw (f 1 (omega arith) (omega arith)) (count-from (p .f 1) (p .number)))
     (rw (f 2 (omega arith) (omega arith)) (count-from (p .f 2) (p .time)))
-    (λ i h. rw (f (3 + i) (omega arith) (omega arith)) (sample-from l (p .f (3 + i)) (p .samples i h)))
+    (λ i h. rw (f (3 + i) (omega arith) (omega arith)) (plain-sample-exactly l (p .f (3 + i)) text .1 (p .samples i h)))
 
-pub line-plain : (l : Layout) (n : ℕ) (r : Row) → PlainLine l (lineOf l n r)
-line-plain l n r =
+pub line-plain : (l : Layout) (n : ℕ) (r : Row) → l .kind ≡ Ascii → PlainLine l (lineOf l n r)
+line-plain l n r text =
     record {
       f = λ i. fieldAt i (lineOf l n r);
       fields = fields-of (fieldsOf l) (lineOf l n r) (omega arith) (fields-line l n r);
       number = rw (number-field l n r) (count-to _ (decimal-plain n));
       time = rw (time-field l n r) (count-to _ (decimal-plain (r .time)));
-      samples = λ i h. rw (sample-field l n r i h) (chars-plain l (getD (r .samples) i (pos 0)));
+      samples = λ i h. rw (sample-field l n r i h) (chars-plain l (getD (r .samples) i (pos 0)) text);
     }
 
-pub plain-there : (l : Layout) (r : ℕ → Row) → PlainText l (textFile l r)
+pub plain-there : (l : Layout) (r : ℕ → Row) → l .kind ≡ Ascii → PlainText l (textFile l r)
 unfolding textOf
-plain-there l r =
+plain-there l r text =
     record {
       line = λ i. lineOf l (i + 1) (r i);
       whole = refl;
-      each = λ i h. record { bytes = line-bytes-plain l (i + 1) (r i); is = line-plain l (i + 1) (r i) };
+      each = λ i h. record { bytes = line-bytes-plain l (i + 1) (r i); is = line-plain l (i + 1) (r i) text };
     }
 
-pub plain-written : (l : Layout) (r : ℕ → Row) (s : List ℕ) → TextFile l r s → PlainText l s → s ≡ textFile l r
+pub plain-written : (l : Layout) (r : ℕ → Row) (s : List ℕ) → l .kind ≡ Ascii → TextFile l r s → PlainText l s → s ≡ textFile l r
 unfolding textOf
-plain-written l r s t p =
+plain-written l r s text t p =
     let x = same-lines (p .line) (t .line) (l .rows) mark (t .end) (λ i h. p .each i h .bytes) (λ i h. t .each i h .bytes) (sym (p .whole) ∙ t .whole) .0 in
     p .whole
     ∙ ap (λ (y : List ℕ). y ++ mark)
     (cat-ext (λ i. ended (p .line i)) (λ i. textOf l (i + 1) (r i)) (l .rows)
-    (λ i h. ap ended (x i h ∙ sym (line-is l (i + 1) (r i) (t .line i) (t .each i h .is) (subst (PlainLine l) (x i h) (p .each i h .is))))))
+    (λ i h. ap ended (x i h ∙ sym (line-is l (i + 1) (r i) (t .line i) text (t .each i h .is) (subst (PlainLine l) (x i h) (p .each i h .is))))))

@@ -123,7 +123,7 @@ module _ (l : Layout) (s : List ℕ) (n : ℕ) (r : Row) (q : ℕ → Row) (size
       let p = line-front l n r (st .after) e in
       let y = lines-apart (lineOf l n r) (line (m + 0)) (st .after) rest (line-bytes-plain l n r) (t .each (m + 0) (omega arith) .bytes) (sym p ∙ x) .0 in
       let z : m + 0 ≡ m = omega arith in
-      sym (line-exactly l (m + 1) (line m) (q m) .1 (t .each m (omega arith) .is) .1)
+      sym (line-exactly l e (m + 1) (line m) (q m) .1 (t .each m (omega arith) .is) .1)
       ∙ ap (rowOf l) (sym (rw z at y)) ∙ line-back l n r (each-fits l r w)
     where
       as-rows : (k : Kind) → k ≡ Ascii → RowsOf k l (n - 1) (st .before) → RowsOf Ascii l (n - 1) (st .before)
@@ -167,7 +167,7 @@ module _ (l : Layout) (r : ℕ → Row) (size : Sized l) (w : (i : ℕ) → i < 
             let f = each-fits l (r i) (w i k) in
             record {
               bytes = line-bytes-plain l (i + 1) (r i);
-              is = line-exactly l (i + 1) (line i) (trimmed l (r i)) .0 (line-fine l (i + 1) (r i) f (omega (arith, size .rows)), line-back l (i + 1) (r i) f);
+              is = line-exactly l e (i + 1) (line i) (trimmed l (r i)) .0 (line-fine l (i + 1) (r i) f (omega (arith, size .rows)), line-back l (i + 1) (r i) f);
             };
         short = λ i k. let f = each-fits l (r i) (w i k) in line-most l (i + 1) (r i) size (omega (arith, size .rows)) (f .time) (f .samples);
         ends = h;

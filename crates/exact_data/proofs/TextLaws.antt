@@ -1,5 +1,5 @@
 -- Files of text, exactly.
---     number-some        a number is not empty
+--     missing-exactly    a field is that of a missing sample exactly when it is its text
 --     sample-exactly     a field is read as a sample, or a missing one, exactly when it is that of the sample
 --     line-exactly       a row's line is fine, and says r, exactly when its fields are those of the row
 --     ending-exactly     what may follow the last row
@@ -7,7 +7,7 @@
 --     text-exactly       a file is accepted as text, and its rows are r 0, r 1, .., exactly when it is the text of these rows
 -- Assumes nothing.
 use mathlib.Core.Path.{_≡_, refl, sym, ap, subst, _∙_}
-use mathlib.Core.Logic.{_↔_, inl, inr}
+use mathlib.Core.Logic.{_↔_, _⊎_, inl, inr}
 use mathlib.Core.Bool.{Bool, true, false, _&&_}
 use mathlib.Core.List.{List, [], _∷_, _++_, append-assoc}
 use Prim.Native.Nat.{ℕ, zero, suc, _+_, _≤_, _<_}
@@ -31,16 +31,21 @@ use Rattle.text.specs.declared.Scanned.the-variants as scanned
 use Rattle.text.specs.Lines.{lineBytes}
 use Rattle.text.specs.Fields.{fieldCount, afterFields, fieldAt}
 use Rattle.text.proofs.LineLaws.{line-found, line-ended, line-scanned}
+use Rattle.model.specs.declared.Kind.{Kind}
+use Rattle.model.specs.declared.Kind.the-variants.{Ascii, Binary, Binary32}
+use Rattle.model.specs.declared.Edition.{Edition}
+use Rattle.model.specs.declared.Edition.the-variants.{Y2013, Y1999}
 use Rattle.model.specs.declared.Layout.{Layout}
 use Rattle.model.specs.declared.Row.{Row}
 use Rattle.model.specs.Refusals.{refused}
-use Rattle.model.specs.Samples.{isMissing, sampleOf}
+use Rattle.model.specs.Samples.{isMissing, sampleOf, markedIn, marked}
 use Rattle.model.specs.Rows.{latestTime, trimmed}
 use Rattle.model.proofs.SampleLaws.{missing-is, is-missing, holds-there}
 use Rattle.numerals.specs.declared.Whole.the-variants as whole
-use Rattle.ascii_row.specs.Fields.{readTimestamp, readSample, timeIn, sampleIn, statusIn}
+use Rattle.numerals.specs.Wholes.{readWhole}
+use Rattle.ascii_row.specs.Fields.{readTimestamp, isMissingField, readSample, timeIn, sampleIn, statusIn}
 use Rattle.ascii_row.specs.Rows.{fieldsOf, checkLine, fieldSample, fieldStatus, rowOf}
-use Rattle.ascii_row.proofs.FieldLaws.{time-below, time-read, time-fine, SampleTold, sample-told, told-sample, whole-some, sample-read, sample-fine}
+use Rattle.ascii_row.proofs.FieldLaws.{time-below, time-read, time-fine, missing-told, told-missing, SampleTold, sample-told, told-sample, sample-read, sample-fine}
 use Rattle.ascii_row.proofs.LineLaws.{FineLine, line-told, line-is, sample-at, status-at, sample-there, status-there, row-trimmed}
 use Rattle.ascii_plain.specs.Rows.{statusChar}
 use Rattle.ascii_file.specs.Files.{scanRow, takeRow, isEnding, checkLines, checkText, lineTaken, firstLine, afterRows, textRow}
@@ -49,7 +54,7 @@ use Rattle.ascii_file.proofs.RoundLaws.{status-back}
 use Rattle.ascii_file.proofs.PlainLaws.{status-again}
 use Rattle.paper.specs.Fields.{CountField, WholeField}
 use Rattle.paper.specs.Lines.{ended}
-use Rattle.paper.specs.Data.{statusOf, SampleField, TextLine, TextEnding, TextFile}
+use Rattle.paper.specs.Data.{statusOf, MissingText, SampleField, TextLine, TextEnding, TextFile}
 use Rattle.exact.proofs.CountLaws.{count-exactly}
 use Rattle.exact.proofs.WholeLaws.{whole-exactly}
 use Rattle.exact.proofs.CommaLaws.{fields-exactly, fields-of}
@@ -65,21 +70,39 @@ time-of : (f : List ℕ) (v : ℕ) → CountField 13 v f → v ≤ latestTime �
 unfolding timeIn readTimestamp
 time-of f v c h = rw (count-exactly 13 v f .1 c, le-leb v latestTime h)
 
--- a number has a character
-pub number-some : (z : ℤ) → WholeField z [] → ⊥
-number-some z w = let q : true ≡ false = whole-some [] z (whole-exactly z [] .1 w) in clash (cc)
+-- the text of a missing sample, by kind and edition
+missing-to : (k : Kind) (e : Edition) (f : List ℕ) → k ≡ Ascii
+    → ((markedIn k e ≡ false) × (f ≡ [])) ⊎ ((markedIn k e ≡ true) × (readWhole f ≡ whole.Is (pos 99999))) → MissingText e f
+missing-to Ascii Y2013 f t (inl (m, n)) = n
+missing-to Ascii Y2013 f t (inr (m, n)) = clash (cc)
+missing-to Ascii Y1999 f t (inl (m, n)) = clash (cc)
+missing-to Ascii Y1999 f t (inr (m, n)) = whole-exactly (pos 99999) f .0 n
+missing-to Binary e f t m = clash (cc)
+missing-to Binary32 e f t m = clash (cc)
 
-module _ (l : Layout) (f : List ℕ) (z : ℤ) where
+missing-from : (k : Kind) (e : Edition) (f : List ℕ) → k ≡ Ascii → MissingText e f
+    → ((markedIn k e ≡ false) × (f ≡ [])) ⊎ ((markedIn k e ≡ true) × (readWhole f ≡ whole.Is (pos 99999)))
+missing-from Ascii Y2013 f t m = inl (refl, m)
+missing-from Ascii Y1999 f t m = inr (refl, whole-exactly (pos 99999) f .1 m)
+missing-from Binary e f t m = clash (cc)
+missing-from Binary32 e f t m = clash (cc)
+
+pub missing-exactly : (l : Layout) (f : List ℕ) → l .kind ≡ Ascii → isMissingField l f ≡ true ↔ MissingText (l .edition) f
+unfolding marked
+missing-exactly l f text =
+    (λ e. missing-to (l .kind) (l .edition) f text (missing-told l f e), λ m. told-missing l f (missing-from (l .kind) (l .edition) f text m))
+
+module _ (l : Layout) (text : l .kind ≡ Ascii) (f : List ℕ) (z : ℤ) where
   sample-to : SampleTold l f z → SampleField l (sampleOf z) f
   unfolding sampleOf
-  sample-to (inl (e, n)) = rw (e, missing-is) n
+  sample-to (inl (e, n)) = rw (e, missing-is) (missing-exactly l f text .0 n)
   sample-to (inr (e, h)) = rw (holds-there l z h) (whole-exactly z f .0 e, range-exactly l z .0 h)
 
   sample-from : SampleField l (sampleOf z) f → SampleTold l f z
   unfolding sampleOf
   sample-from =
       on-test (isMissing z)
-      (λ t. rw t (λ e. inl (is-missing z t, e)))
+      (λ t. rw t (λ e. inl (is-missing z t, missing-exactly l f text .1 e)))
       (λ t. rw t (λ e. inr (whole-exactly z f .1 (e .0), range-exactly l z .1 (e .1))))
 
   pub sample-exactly : readSample l f ≡ whole.Is z ↔ SampleField l (sampleOf z) f
@@ -91,7 +114,7 @@ module _ (l : Layout) (f : List ℕ) (z : ℤ) where
   sample-of t = rw (sample-exactly .1 t)
 
 -- the line of row n
-module _ (l : Layout) (n : ℕ) (line : List ℕ) where
+module _ (l : Layout) (text : l .kind ≡ Ascii) (n : ℕ) (line : List ℕ) where
   line-own : FineLine l n line → TextLine l n (rowOf l line) line
   unfolding rowOf
   line-own t =
@@ -103,7 +126,7 @@ module _ (l : Layout) (n : ℕ) (line : List ℕ) where
         early = omega (arith, time-below (fieldAt 2 line));
         samples = λ i h.
             let f = fieldAt (3 + i) line in
-            rw (sample-there l line i h) (sample-to l f (sampleIn l f) (sample-read l f (t .samples i h)));
+            rw (sample-there l line i h) (sample-to l text f (sampleIn l f) (sample-read l f (t .samples i h)));
         statuses = λ i h.
             let f = fieldAt (3 + l .analogs + i) line in
             rw (status-there l line i h) (sym (status-again f (t .statuses i h)) ∙ status-char (statusIn f));
@@ -129,7 +152,7 @@ module _ (l : Layout) (n : ℕ) (line : List ℕ) where
           time = rw (the-fields .1 2 (omega arith) (omega arith)) (time-fine (t .f 2) (r .time) (count-exactly 13 (r .time) (t .f 2) .1 (t .time)) (t .early));
           samples = λ i h.
               let z = getD (r .samples) i (pos 0) in
-              rw (the-fields .1 (3 + i) (omega arith) (omega arith)) (sample-fine l (t .f (3 + i)) z (sample-from l (t .f (3 + i)) z (t .samples i h)));
+              rw (the-fields .1 (3 + i) (omega arith) (omega arith)) (sample-fine l (t .f (3 + i)) z (sample-from l text (t .f (3 + i)) z (t .samples i h)));
           statuses = λ i h. rw (status-field i h) (status-back (statusOf r i) .0);
         })
 
@@ -140,7 +163,7 @@ module _ (l : Layout) (n : ℕ) (line : List ℕ) where
           the-fields .1 2 (omega arith) (omega arith),
           time-of (t .f 2) (r .time) (t .time) (t .early),
           tab-ext (fieldSample l (afterFields 2 line)) (λ i. getD (r .samples) i (pos 0)) (l .analogs)
-              (λ i h. sample-at l line i ∙ ap (sampleIn l) (the-fields .1 (3 + i) (omega arith) (omega arith)) ∙ sample-of l (t .f (3 + i)) (getD (r .samples) i (pos 0)) (t .samples i h)),
+              (λ i h. sample-at l line i ∙ ap (sampleIn l) (the-fields .1 (3 + i) (omega arith) (omega arith)) ∙ sample-of l text (t .f (3 + i)) (getD (r .samples) i (pos 0)) (t .samples i h)),
           tab-ext (fieldStatus (afterFields (2 + l .analogs) line)) (statusOf r) (l .statuses)
               (λ i h. status-at l line i ∙ ap statusIn (status-field i h) ∙ status-back (statusOf r i) .1),
         )
@@ -283,7 +306,7 @@ line-back l (suc m) n (suc i) s line end r h =
     (line-back l m (n + 1) i (others line m end) (λ i. line (i + 1)) end (after-front l n m s line end r) (omega arith) ∙ rw add-one)
 
 -- a file of text
-module _ (l : Layout) (r : ℕ → Row) (s : List ℕ) where
+module _ (l : Layout) (text : l .kind ≡ Ascii) (r : ℕ → Row) (s : List ℕ) where
   text-to : checkText l s ≡ says tt → ((i : ℕ) → i < l .rows → textRow l i s ≡ r i) → TextFile l r s
   unfolding checkText textRow
   text-to e rows =
@@ -295,7 +318,7 @@ module _ (l : Layout) (r : ℕ → Row) (s : List ℕ) where
         whole = d .parts;
         each = λ i h.
             let q : 1 + i ≡ i + 1 = omega arith in
-            record { bytes = d .bytes i h; is = line-exactly l (i + 1) (line i) (r i) .0 (rw q at (d .fine i h), rows i h) };
+            record { bytes = d .bytes i h; is = line-exactly l text (i + 1) (line i) (r i) .0 (rw q at (d .fine i h), rows i h) };
         short = d .short;
         ends = ending-exactly (afterRows (l .rows) s) .0 (d .ending);
       }
@@ -303,7 +326,7 @@ module _ (l : Layout) (r : ℕ → Row) (s : List ℕ) where
   module _ (t : TextFile l r s) where
     -- its line of row i
     line-right : (i : ℕ) → i < l .rows → (checkLine l (i + 1) (t .line i) ≡ says tt) × (rowOf l (t .line i) ≡ r i)
-    line-right i h = line-exactly l (i + 1) (t .line i) (r i) .1 (t .each i h .is)
+    line-right i h = line-exactly l text (i + 1) (t .line i) (r i) .1 (t .each i h .is)
 
     device : TextRows l 1 (l .rows) s (t .line) (t .end)
     device =

@@ -2,7 +2,8 @@
 --     fields-written             its fields are those of the line, each as it is written
 --     line-written               so it is what the line is written as, told by its fields
 --     kind-long, word-short      the kind's line has at least 5 characters, and its word at most 8
---     station-written to quality-written     each line of a configuration, and the kind's line in another kind
+--     kept-written, channels-written to codes-written     each line of a configuration
+--     kind-written               the kind's line in another kind, which the edition has
 -- Assumes nothing.
 use mathlib.Core.Path.{_≡_, refl, ap, _∙_}
 use mathlib.Core.Logic.{_⊎_, inl, inr}
@@ -19,10 +20,13 @@ use Rattle.reals.specs.declared.Real.{Real}
 use Rattle.reals.specs.declared.Real.the-variants as real
 use Rattle.model.specs.declared.Kind.{Kind}
 use Rattle.model.specs.declared.Kind.the-variants.{Ascii, Binary, Binary32}
+use Rattle.model.specs.declared.Edition.{Edition}
 use Rattle.model.specs.Kinds.{kindName}
+use Rattle.model.specs.Editions.{hasKind}
 use Rattle.paper.specs.Fields.{lowered, kindWord, AnyReal}
 use Rattle.paper.specs.Lines.{Line, Fields, ChannelsLine, AnalogLine, StatusLine, FrequencyLine, RatesLine, RateLine, KindLine, MultiplierLine, CodesLine}
 use Rattle.exact.proofs.CountLaws.{spaces-split}
+use Rattle.exact.proofs.KindLaws.{has-exactly}
 use Rattle.exact.proofs.CommaLaws.{fields-exactly, fields-of}
 use Rattle.rewrite_lines.specs.declared.LineSort.{LineSort}
 use Rattle.rewrite_lines.specs.declared.LineSort.the-variants.{Kept, Numbers, Analog, Status, Word}
@@ -178,15 +182,16 @@ codes-written k z w x l = numbers-line k l (λ c.
     })
 
 -- the kind's line in another kind: its word
-kind-line : (k : Kind) → Line (KindLine k) (kindName k)
+kind-line : (e : Edition) (k : Kind) → hasKind e k ≡ true → Line (KindLine e k) (kindName k)
 unfolding kindName
-kind-line Ascii = record { bytes = refl; is = record { f = λ i. kindName Ascii; fields = record { joined = refl; apart = λ i p q. refl }; kind = refl } }
-kind-line Binary = record { bytes = refl; is = record { f = λ i. kindName Binary; fields = record { joined = refl; apart = λ i p q. refl }; kind = refl } }
-kind-line Binary32 = record { bytes = refl; is = record { f = λ i. kindName Binary32; fields = record { joined = refl; apart = λ i p q. refl }; kind = refl } }
+kind-line e Ascii h = record { bytes = refl; is = record { f = λ i. kindName Ascii; fields = record { joined = refl; apart = λ i p q. refl }; kind = refl; has = has-exactly e Ascii .0 h } }
+kind-line e Binary h = record { bytes = refl; is = record { f = λ i. kindName Binary; fields = record { joined = refl; apart = λ i p q. refl }; kind = refl; has = has-exactly e Binary .0 h } }
+kind-line e Binary32 h =
+    record { bytes = refl; is = record { f = λ i. kindName Binary32; fields = record { joined = refl; apart = λ i p q. refl }; kind = refl; has = has-exactly e Binary32 .0 h } }
 
-pub kind-written : (k : Kind) (l : List ℕ) → Line (KindLine k) (lineText k Word l)
+pub kind-written : (e : Edition) (k : Kind) (l : List ℕ) → hasKind e k ≡ true → Line (KindLine e k) (lineText k Word l)
 unfolding lineText
-kind-written k l = kind-line k
+kind-written e k l = kind-line e k
 
 -- how long the kind's line is, and its word
 pub word-short : (k : Kind) (l : List ℕ) → length (lineText k Word l) ≤ 8
@@ -202,7 +207,7 @@ word-long Ascii = lit≤ tt
 word-long Binary = lit≤ tt
 word-long Binary32 = lit≤ tt
 
-pub kind-long : (k : Kind) (l : List ℕ) → KindLine k l → 5 ≤ length l
-kind-long k l w =
+pub kind-long : (e : Edition) (k : Kind) (l : List ℕ) → KindLine e k l → 5 ≤ length l
+kind-long e k l w =
     let e : l ≡ w .f 1 = w .fields .joined ∙ append-nil (w .f 1) in
     rw (e, ← lowered-long (w .f 1), w .kind) (word-long k)

@@ -1,4 +1,5 @@
 -- Lines that are written anew, one after the other: what is written of a text is told by its lines.
+--     part-then                 a part, and what follows it
 --     next, last                a line with its CR LF, and the last line with it or without
 --     split                     lines of one sort, and what follows them
 --     group-lines, rate-group   lines of channels, and of rates, are such lines again where each line is
@@ -25,6 +26,10 @@ use Rattle.rewrite_lines.specs.declared.LineSort.the-variants.{Kept}
 use Rattle.rewrite_sorts.specs.Cuts.{cutLine}
 use Rattle.rewrite.specs.Rewrite.{linesText}
 use Rattle.rewrite.proofs.LinesLaws.{lines-next, lines-last}
+
+-- a part, and what follows it
+pub part-then : {x y z : List ℕ} (a : List ℕ) → x ≡ a ++ y → y ≡ z → x ≡ a ++ z
+part-then a p q = p ∙ ap (_++_ a) q
 
 -- line i of a text, counted from 0
 abbrev pub lineAt : ℕ → List ℕ → List ℕ

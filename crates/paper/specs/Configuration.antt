@@ -12,6 +12,11 @@ use Rattle.clock.specs.declared.Date.{Date}
 use Rattle.clock.specs.declared.Span.{Span}
 use Rattle.reals.specs.declared.Real.{Real}
 use Rattle.config_rules.specs.declared.Moment.{Moment}
+use Rattle.model.specs.declared.Edition.{Edition}
+use Rattle.model.specs.declared.Edition.the-variants.{Y2013, Y1999}
+use Rattle.config_rules.specs.declared.LastLines.{LastLines}
+use Rattle.config_rules.specs.declared.Last.{Last}
+use Rattle.config_rules.specs.declared.Last.the-variants as endLines
 use Rattle.config_rules.specs.declared.Config.{Config}
 use Rattle.paper.specs.Fields.{monthLengths}
 use Rattle.paper.specs.Lines.{Line, ended, StationLine, ChannelsLine, AnalogLine, StatusLine, FrequencyLine, RatesLine}
@@ -50,11 +55,21 @@ pub record PreTrigger (first trigger : Moment) (p : Span) : Type 0 where
   pub apart : pos (instant first) +ℤ (p .seconds *ℤ pos 1000000000 +ℤ pos (p .nanoseconds)) ≡ pos (instant trigger)
   pub below : p .nanoseconds < 1000000000
 
+-- what follows the time multiplier's bytes, before the file's end: nothing in 1999; in 2013 its CR LF, time code and local code with theirs, time quality and leap second code
+abbrev pub EndLines : Edition → Last → List ℕ → Type 0
+EndLines Y1999 v t = (v ≡ endLines.Absent) × (t ≡ [])
+EndLines Y2013 v t =
+    (e : LastLines) × (l10 : List ℕ) × (l11 : List ℕ)
+    × (v ≡ endLines.Lines e)
+    × Line (CodesLine (e .code) (e .local) (e .x)) l10
+    × Line (QualityLine (e .quality) (e .leap)) l11
+    × (t ≡ quoted "\r\n" ++ (ended l10 ++ l11))
+
 -- THE CONFIGURATION. The bytes s are one, and it shows c. Numbers are those of the rules' list, line by line.
 pub record Configuration (s : List ℕ) (c : Config) : Type 0 where
   -- 1: station, device, year
   pub l1 : List ℕ
-  pub station : Line StationLine l1
+  pub station : Line (StationLine (c .layout .edition)) l1
   -- 2: TT, A, D
   pub l2 : List ℕ
   pub channels : Line (ChannelsLine (c .layout .analogs) (c .layout .statuses)) l2
@@ -84,18 +99,15 @@ pub record Configuration (s : List ℕ) (c : Config) : Type 0 where
   pub pretrigger : PreTrigger (c .first) (c .trigger) (c .pretrigger)
   -- 8: kind
   pub l8 : List ℕ
-  pub kind : Line (KindLine (c .layout .kind)) l8
+  pub kind : Line (KindLine (c .layout .edition) (c .layout .kind)) l8
   -- 9: time multiplier
   pub l9 : List ℕ
   pub multiplier : Line MultiplierLine l9
-  -- 10: time code, local code
-  pub l10 : List ℕ
-  pub codes : Line (CodesLine (c .code) (c .local) (c .x)) l10
-  -- 11: time quality, leap second code
-  pub l11 : List ℕ
-  pub quality : Line (QualityLine (c .quality) (c .leap)) l11
+  -- 10 and 11: the last two lines, which 1999 lacks
+  pub t10 : List ℕ
+  pub last : EndLines (c .layout .edition) (c .last) t10
   -- these and nothing else, each with CR LF, the last with it or not; at most 65,536 bytes
   pub end : List ℕ
   pub ends : (end ≡ []) ⊎ (end ≡ quoted "\r\n")
-  pub whole : s ≡ ended l1 ++ (ended l2 ++ (t3 ++ (t4 ++ (ended l5 ++ (ended l6 ++ (t6 ++ (ended l7 ++ (ended m7 ++ (ended l8 ++ (ended l9 ++ (ended l10 ++ (l11 ++ end))))))))))))
+  pub whole : s ≡ ended l1 ++ (ended l2 ++ (t3 ++ (t4 ++ (ended l5 ++ (ended l6 ++ (t6 ++ (ended l7 ++ (ended m7 ++ (ended l8 ++ (l9 ++ (t10 ++ end)))))))))))
   pub small : length s ≤ 65536

@@ -1,7 +1,7 @@
 -- WHAT A DATA FILE IS and which rows it has. Read second; no reader stands here.
 use mathlib.Core.Path.{_≡_}
 use mathlib.Core.Logic.{_⊎_}
-use mathlib.Core.Bool.{Bool, false, _&&_}
+use mathlib.Core.Bool.{Bool, true, false, _&&_}
 use mathlib.Core.List.{List, [], _∷_, _++_}
 use Prim.Native.Nat.{ℕ, _+_, _*_, _/_, _%_, _^_, _≤_, _<_}
 use lib.Dec.{eqb, ltb}
@@ -13,20 +13,24 @@ use Rattle.ground.specs.Quoted.{quoted}
 use Rattle.ground.specs.Tables.{part, cat}
 use Rattle.model.specs.declared.Kind.{Kind}
 use Rattle.model.specs.declared.Kind.the-variants.{Ascii, Binary, Binary32}
+use Rattle.model.specs.declared.Edition.{Edition}
+use Rattle.model.specs.declared.Edition.the-variants.{Y2013, Y1999}
 use Rattle.model.specs.declared.Layout.{Layout}
 use Rattle.model.specs.declared.Row.{Row}
 use Rattle.model.specs.declared.Sample.{Sample}
 use Rattle.model.specs.declared.Sample.the-variants.{Is, Missing, No}
 use Rattle.model.specs.Kinds.{widthOf, lowestOf, highestOf}
+use Rattle.model.specs.Editions.{hasKind}
+use Rattle.model.specs.Layouts.{Sized}
 use Rattle.model.specs.Samples.{sampleOf}
 use Rattle.model.specs.Rows.{latestTime, trimmed}
 use Rattle.paper.specs.Fields.{CountField, WholeField}
 use Rattle.paper.specs.Lines.{Line, ended, Fields}
 
--- a number within the range of the layout's kind
+-- a number within the range of the layout's kind and edition
 pub record InRange (l : Layout) (z : ℤ) : Type 0 where
-  pub low : lowestOf (l .kind) ≤ℤ z
-  pub high : z ≤ℤ highestOf (l .kind)
+  pub low : lowestOf (l .kind) (l .edition) ≤ℤ z
+  pub high : z ≤ℤ highestOf (l .kind) (l .edition)
 
 -- what a row says of its analog channel i, counted from 0: a sample, or that it is missing
 abbrev pub rowSample : Row → ℕ → Sample
@@ -37,10 +41,15 @@ abbrev pub statusOf : Row → ℕ → Bool
 statusOf r i = getD (r .statuses) i false
 
 -- TEXT
--- a sample in text: a whole number of 1 to 13 characters within the range; a missing one is an empty field
+-- the text of a missing sample: an empty field; in 1999 the whole number 99999, however it is written
+abbrev pub MissingText : Edition → List ℕ → Type 0
+MissingText Y2013 f = f ≡ []
+MissingText Y1999 f = WholeField (pos 99999) f
+
+-- a sample in text: a whole number of 1 to 13 characters within the range; or the text of a missing one
 abbrev pub SampleField : Layout → Sample → List ℕ → Type 0
 SampleField l (Is z) f = WholeField z f × InRange l z
-SampleField l Missing f = f ≡ []
+SampleField l Missing f = MissingText (l .edition) f
 SampleField l (No r) f = ⊥
 
 -- the line of row n, which is r: number, timestamp, A samples, D statuses; r is zero past them
@@ -119,6 +128,10 @@ pub record BinaryFile (l : Layout) (r : ℕ → Row) (s : List ℕ) : Type 0 whe
   pub each : (i : ℕ) → i < l .rows → BinaryRow l (i + 1) (r i) (bytes i)
 
 -- ALL KINDS
+-- a layout that is allowed: within the sizes, and of a kind that its edition has
+abbrev pub Allowed : Layout → Type 0
+Allowed l = Sized l × (hasKind (l .edition) (l .kind) ≡ true)
+
 -- a data file of a kind
 abbrev pub FileOf : Kind → Layout → (ℕ → Row) → List ℕ → Type 0
 FileOf Ascii l r s = TextFile l r s

@@ -11,6 +11,9 @@ use Rattle.ground.specs.Tables.{cat, every}
 use Rattle.reals.specs.declared.Real.{Real}
 use Rattle.reals.specs.declared.Real.the-variants as real
 use Rattle.model.specs.declared.Kind.{Kind}
+use Rattle.model.specs.declared.Kind.the-variants.{Binary32}
+use Rattle.model.specs.declared.Edition.{Edition}
+use Rattle.model.specs.declared.Edition.the-variants.{Y2013, Y1999}
 use Rattle.config_rules.specs.declared.Moment.{Moment}
 use Rattle.paper.specs.Fields.{TextField, isBetween, CountField, CountIn, Lettered, RealField, AnyReal, Limits, DateText, TimeText, KindWord, CodeField, XField, QualityField, LeapField}
 
@@ -28,13 +31,18 @@ pub record Fields (n : ℕ) (f : ℕ → List ℕ) (l : List ℕ) : Type 0 where
   pub joined : l ≡ f 1 ++ cat (λ i. quoted "," ++ f (i + 2)) (n - 1)
   pub apart : (i : ℕ) → 1 ≤ i → i ≤ n → every (λ b. not (eqb b 44)) (f i) ≡ true
 
--- 1: station, device, year 2013
-pub record StationLine (l : List ℕ) : Type 0 where
+-- the year of an edition, as a configuration names it
+abbrev pub yearText : Edition → List ℕ
+yearText Y2013 = quoted "2013"
+yearText Y1999 = quoted "1999"
+
+-- 1: station, device, the year of the edition
+pub record StationLine (e : Edition) (l : List ℕ) : Type 0 where
   pub f : ℕ → List ℕ
   pub fields : Fields 3 f l
   pub station : TextField 0 64 (f 1)
   pub device : TextField 0 64 (f 2)
-  pub year : f 3 ≡ quoted "2013"
+  pub year : f 3 ≡ yearText e
 
 -- 2: TT, A with its letter, D with its letter; TT is A + D
 pub record ChannelsLine (a d : ℕ) (l : List ℕ) : Type 0 where
@@ -104,11 +112,12 @@ pub record DateLine (m : Moment) (l : List ℕ) : Type 0 where
   pub date : DateText (m .date) (f 1)
   pub time : TimeText (m .time) (f 2)
 
--- 8: the kind
-pub record KindLine (k : Kind) (l : List ℕ) : Type 0 where
+-- 8: the kind; binary32 is none of 1999
+pub record KindLine (e : Edition) (k : Kind) (l : List ℕ) : Type 0 where
   pub f : ℕ → List ℕ
   pub fields : Fields 1 f l
   pub kind : KindWord k (f 1)
+  pub has : e ≡ Y1999 → k ≡ Binary32 → ⊥
 
 -- 9: time multiplier, above zero
 pub record MultiplierLine (l : List ℕ) : Type 0 where

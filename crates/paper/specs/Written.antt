@@ -11,6 +11,8 @@ use Rattle.ground.specs.Quoted.{quoted}
 use Rattle.ground.specs.Tables.{cat, every}
 use Rattle.model.specs.declared.Kind.{Kind}
 use Rattle.model.specs.declared.Kind.the-variants.{Ascii, Binary, Binary32}
+use Rattle.model.specs.declared.Edition.{Edition}
+use Rattle.model.specs.declared.Edition.the-variants.{Y2013, Y1999}
 use Rattle.model.specs.declared.Layout.{Layout}
 use Rattle.model.specs.declared.Row.{Row}
 use Rattle.model.specs.declared.Sample.{Sample}
@@ -63,9 +65,10 @@ pub record PlainCount (f : List ℕ) : Type 0 where
 abbrev pub PlainWhole : List ℕ → Type 0
 PlainWhole f = PlainCount f ⊎ ((d : List ℕ) × (f ≡ quoted "-" ++ d) × PlainCount d × (d ≡ quoted "0" → ⊥))
 
--- a plain sample: a plain whole number, or nothing for a missing one
-abbrev pub PlainSample : List ℕ → Type 0
-PlainSample f = PlainWhole f ⊎ (f ≡ [])
+-- a plain sample: a plain whole number; in 2013 nothing, too, for a missing one
+abbrev pub PlainSample : Edition → List ℕ → Type 0
+PlainSample Y2013 f = PlainWhole f ⊎ (f ≡ [])
+PlainSample Y1999 f = PlainWhole f
 
 -- a plain line: its number, its timestamp and its samples are plain
 pub record PlainLine (l : Layout) (line : List ℕ) : Type 0 where
@@ -73,7 +76,7 @@ pub record PlainLine (l : Layout) (line : List ℕ) : Type 0 where
   pub fields : Fields (2 + l .analogs + l .statuses) f line
   pub number : PlainCount (f 1)
   pub time : PlainCount (f 2)
-  pub samples : (i : ℕ) → i < l .analogs → PlainSample (f (3 + i))
+  pub samples : (i : ℕ) → i < l .analogs → PlainSample (l .edition) (f (3 + i))
 
 -- a plain text: such a line for each row, with CR LF, and 1A 0D 0A after the last
 pub record PlainText (l : Layout) (s : List ℕ) : Type 0 where
@@ -98,6 +101,6 @@ pub record FirstOutside (l : Layout) (k : Kind) (r : ℕ → Row) (i j : ℕ) : 
   pub sample : j < l .analogs
   pub number : ℤ
   pub there : rowSample (r i) j ≡ Is number
-  pub outside : (number <ℤ lowestOf k) ⊎ (highestOf k <ℤ number)
+  pub outside : (number <ℤ lowestOf k (l .edition)) ⊎ (highestOf k (l .edition) <ℤ number)
   pub rowsBefore : (p q : ℕ) → p < i → q < l .analogs → FitsIn (inKind k l) (rowSample (r p) q)
   pub samplesBefore : (q : ℕ) → q < j → FitsIn (inKind k l) (rowSample (r i) q)

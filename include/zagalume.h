@@ -1,5 +1,6 @@
 /*
- * zagalume.h: a proved loader of COMTRADE recordings (IEC 60255-24:2013; data files of the kinds ASCII, binary and binary32).
+ * zagalume.h: a proved loader of COMTRADE recordings (IEC 60255-24:2013, and the edition of 1999; data files of the kinds
+ * ASCII, binary and binary32).
  *
  * Every call is answered, whatever its numbers and whatever the lent bytes hold; there is no error but a refusal.
  * A call returns its answer by value: yes, or no with a number, which says what is wrong, and the place.
@@ -18,6 +19,9 @@
  *             play(k, (int32_t)place);
  *     }
  *
+ * A configuration of 1999 has no time codes, no quality and no leap code. Their places are then ZL_NONE, never 0: compare
+ * with ZL_NONE before you use one.
+ *
  * What the caller owes, since nothing here can test it:
  *   - A pointer is valid for its whole length, and aligned for its type: readable where it is const, else writable.
  *     A length counts bytes of a uint8_t pointer and places of an int64_t pointer. Where the length is 0, nothing is
@@ -28,21 +32,21 @@
  * No call allocates, keeps anything between calls, reads a clock or touches a file: all are reentrant, and threads may
  * call at the same time as long as what one writes is lent to no other.
  *
- * What links: libzagalume.a alone, one object of some 45 KB of code and constants, with no writable data. It calls
+ * What links: libzagalume.a alone, one object of some 48 KB of code and constants, with no writable data. It calls
  * memcpy and memset and nothing else: no heap, no other part of a C library, no operating system.
  *
- * Stack that a call uses, in bytes, its caller's frame included, on the largest layout (A = 96, D = 256) of every kind,
- * as tools/stack measures it:
+ * Stack that a call uses, in bytes, its caller's frame included, on the largest layout (A = 96, D = 256) of every kind and
+ * edition, as tools/stack measures it:
  *
  *                     x86-64      aarch64
- *     zl_config          1264        1280
- *     zl_write_config    1376        1472
- *     zl_check            368         304
- *     zl_row             2928        2880
- *     zl_write_row       2576        2576
- *     zl_length          2048        1952
- *     zl_change          3584        3472
- *     zl_reason           720         720
+ *     zl_config          1312        1296
+ *     zl_write_config    1424        1488
+ *     zl_check            496         320
+ *     zl_row             3024        2896
+ *     zl_write_row       2592        2560
+ *     zl_length          2144        1984
+ *     zl_change          3696        3504
+ *     zl_reason           736         736
  */
 #ifndef ZAGALUME_H
 #define ZAGALUME_H
@@ -51,7 +55,7 @@
 #include <stdint.h>
 
 /* The version of this header and its library. */
-#define ZL_VERSION "0.3.0"
+#define ZL_VERSION "0.4.0"
 
 #ifdef __cplusplus
 extern "C" {
@@ -73,6 +77,15 @@ enum {
 };
 
 /*
+ * The editions, by their year. Any other number is refused with ZL_REFUSED_LAYOUT, and so is ZL_BINARY32 beside
+ * ZL_EDITION_1999, which has the kinds ASCII and binary alone.
+ */
+enum {
+    ZL_EDITION_2013 = 2013,
+    ZL_EDITION_1999 = 1999
+};
+
+/*
  * The number of an answer, with the place of the refusal: line and field of the configuration for 1 to 9, row and field
  * of the data file for 11 to 16. In a row the number is field 1, the timestamp field 2, the samples begin at field 3 and
  * the statuses follow them. Only the first refusal is given. docs/REFUSALS.md has the usual causes and how to mend a file.
@@ -84,19 +97,20 @@ enum {
     ZL_REFUSED_BYTE = 3,          /* a byte outside 32 to 126 before the line's end; line, 0 */
     ZL_REFUSED_FIELD_COUNT = 4,   /* wrong number of fields; line, 0 */
     ZL_REFUSED_FORM = 5,          /* a field's length or form; line, field */
-    ZL_REFUSED_VALUE = 6,         /* a field's number, date, kind or code is not allowed; line, field */
+    ZL_REFUSED_VALUE = 6,         /* a field's number, date, kind or code is not allowed, or the edition lacks the kind;
+                                     line, field */
     ZL_REFUSED_AGREEMENT = 7,     /* TT is not A + D (at D); a wrong index; a last row that does not rise; max below min
                                      (at max); line, field */
-    ZL_REFUSED_YEAR = 8,          /* a year of four digits that is not 2013; line, field */
-    ZL_REFUSED_BYTES_AFTER = 9,   /* bytes after the last line; the line after it, 0 */
-    ZL_REFUSED_LAYOUT = 10,       /* the layout is outside the limits, or there is no such kind, the new kind of a
-                                     change or of a written configuration too; a row to write has too few places; no
-                                     such refusal; 0, 0 */
+    ZL_REFUSED_YEAR = 8,          /* a year of four digits that is not 2013 or 1999; line, field */
+    ZL_REFUSED_BYTES_AFTER = 9,   /* bytes after the last line, which in 1999 is the time multiplier's; line after it, 0 */
+    ZL_REFUSED_LAYOUT = 10,       /* the layout is outside the limits, there is no such kind or edition, or the edition
+                                     lacks the kind, the new kind of a change or of a written configuration too; a row to
+                                     write has too few places; no such refusal; 0, 0 */
     ZL_REFUSED_FILE_LENGTH = 11,  /* wrong length of the data file; binary kinds 0, 0; ASCII row, 0 */
     ZL_REFUSED_ROW_NUMBER = 12,   /* a row's number is not the row's; row, 1 */
     ZL_REFUSED_PADDING = 13,      /* a padding bit is set; row, 0 */
     ZL_REFUSED_TEXT_ROW = 14,     /* a row or a field of a text is bad; row, field, or row, 0 for the whole row. A sample's
-                                     field may be empty: the sample is missing */
+                                     field may be empty in 2013, where the sample is missing; in 1999 it is bad */
     ZL_REFUSED_NO_SUCH_ROW = 15,  /* there is no such row; 0, 0 */
     ZL_REFUSED_MISFIT = 16,       /* a sample does not fit the kind that is written, or a time or status of a lent row its
                                      field; row, field. A missing sample fits every kind */
@@ -110,13 +124,16 @@ enum {
     ZL_MOST_STATUSES = 256,   /* D, status channels, from 0; A + D is at least 1 */
     ZL_MOST_RATES = 8,        /* sampling rates, from 0 */
     ZL_MOST_ROWS = 1000000,   /* rows, from 1 */
-    ZL_CONFIG_PLACES = 34,    /* what zl_config shows */
+    ZL_CONFIG_PLACES = 35,    /* what zl_config shows */
     ZL_MOST_ROW_PLACES = 353, /* what zl_row shows of the largest layout: 1 + 96 + 256 */
     ZL_MOST_ROW_BYTES = 1882, /* room for any row, CR LF included */
     ZL_MOST_REASON_BYTES = 256 /* room for the meaning of any refusal */
 };
 
-/* The places of what zl_config shows. A date and time takes ZL_MOMENT_PLACES, of which the ZL_MOMENT_ names are offsets. */
+/*
+ * The places of what zl_config shows. A date and time takes ZL_MOMENT_PLACES, of which the ZL_MOMENT_ names are offsets. The
+ * places 29 to 33 are ZL_NONE where the edition is 1999, whose configurations have no lines for them, and never else.
+ */
 enum {
     ZL_SHOWN_ANALOGS = 0,             /* A */
     ZL_SHOWN_STATUSES = 1,            /* D */
@@ -128,11 +145,13 @@ enum {
     ZL_SHOWN_PRE_TRIGGER_SECONDS = 26, /* trigger minus first sample: whole seconds, rounded down, */
     ZL_SHOWN_PRE_TRIGGER_NANOSECONDS = 27, /* and 0 to 999,999,999 nanoseconds */
     ZL_SHOWN_KIND = 28,               /* ZL_ASCII, ZL_BINARY or ZL_BINARY32 */
-    ZL_SHOWN_TIME_CODE = 29,          /* signed minutes */
-    ZL_SHOWN_LOCAL_IS_X = 30,         /* 1 where the local code is x, else 0 */
-    ZL_SHOWN_LOCAL_CODE = 31,         /* signed minutes, 0 where it is x */
-    ZL_SHOWN_QUALITY = 32,            /* the value of the hex digit: 0 to 11, or 15 */
-    ZL_SHOWN_LEAP_CODE = 33           /* 0 to 3 */
+    ZL_SHOWN_TIME_CODE = 29,          /* signed minutes, or ZL_NONE */
+    ZL_SHOWN_LOCAL_IS_X = 30,         /* 1 where the local code is x, 0 where it is not, or ZL_NONE; compare it with 1, since
+                                         ZL_NONE is true too */
+    ZL_SHOWN_LOCAL_CODE = 31,         /* signed minutes, 0 where it is x, or ZL_NONE */
+    ZL_SHOWN_QUALITY = 32,            /* the value of the hex digit: 0 to 11, or 15, or ZL_NONE */
+    ZL_SHOWN_LEAP_CODE = 33,          /* 0 to 3, or ZL_NONE */
+    ZL_SHOWN_EDITION = 34             /* ZL_EDITION_2013 or ZL_EDITION_1999 */
 };
 enum {
     ZL_MOMENT_YEAR = 0,
@@ -147,8 +166,8 @@ enum {
 
 /*
  * The places of a row, as zl_row shows it and zl_write_row takes it: the time, then A samples, then D statuses (0 or 1). A
- * sample is a number, or ZL_NONE where it is missing. The numbers are -32,767 to 32,767 in binary, and -2,147,483,647 to
- * 2,147,483,647 in binary32 and ASCII.
+ * sample is a number, or ZL_NONE where it is missing. The numbers are -32,767 to 32,767 in binary, -2,147,483,647 to
+ * 2,147,483,647 in binary32 and in ASCII of 2013, and -99,999 to 99,998 in ASCII of 1999.
  */
 enum {
     ZL_ROW_TIME = 0,
@@ -156,10 +175,11 @@ enum {
 };
 
 /*
- * The place of a missing sample; a time or a status is never missing. Compare before you narrow: ZL_NONE cut to 32 bits is
- * 0, which is a sample. In a file a missing sample is 8000 hex in binary, 80000000 hex in binary32 and an empty field in
- * ASCII. So whoever reads samples from their bytes looks for that pattern first: taken for a number, it would be a full
- * negative swing that was never there.
+ * The number for "there is none": the place of a missing sample, and of what a configuration of 1999 has no line for. A
+ * time or a status is never missing. Compare before you narrow: ZL_NONE cut to 32 bits is 0, which is a sample, a code and
+ * a good quality. In a file a missing sample is 8000 hex in binary, 80000000 hex in binary32, an empty field in ASCII of
+ * 2013 and the number 99999 in ASCII of 1999. So whoever reads samples from their bytes looks for that first: taken for a
+ * number, it would be a full swing that was never there.
  */
 #define ZL_NONE INT64_MIN
 
@@ -171,7 +191,8 @@ static inline int zl_is_missing(int64_t place)
 
 /*
  * Reads a configuration and shows it.
- *   Yes:    ZL_CONFIG_PLACES places of shown are written; length is 0.
+ *   Yes:    ZL_CONFIG_PLACES places of shown are written; the places 29 to 33 are ZL_NONE where the edition is 1999, and no
+ *           other place ever is; length is 0.
  *   No:     1; then line by line, in a line the first of 2 and 3 that is met, then 4, then the fields from the left, in
  *           each 5, 6, 8, 7; then 9; last of all 17, where shown has fewer than ZL_CONFIG_PLACES places.
  */
@@ -179,35 +200,38 @@ zl_answer zl_config(const uint8_t *cfg, size_t cfg_length, int64_t *shown, size_
 
 /*
  * Writes a configuration for a data file of that kind: the kind's word as ASCII, binary or binary32, numbers and codes
- * without the spaces before them, every other field as it stands, and CR LF on each line, the last too. What is written is
- * accepted and shows the same in all but the kind, and written again to that kind it stays as it is.
+ * without the spaces before them, every other field as it stands, the year too, and CR LF on each line, the last too. What
+ * is written is accepted and shows the same in all but the kind, and written again to that kind it stays as it is.
  *   Yes:    length bytes of out are written, at most 5 more than cfg_length; room of ZL_MOST_CONFIG_BYTES is always enough.
- *   No:     1 to 9 as zl_config refuses the configuration; 10, where there is no such kind; 1, where the result would have
- *           more than 65,536 bytes; last of all 17, where out is too short.
+ *   No:     1 to 9 as zl_config refuses the configuration; 10, where there is no such kind, or the configuration's edition
+ *           lacks it; 1, where the result would have more than 65,536 bytes; last of all 17, where out is too short.
  */
 zl_answer zl_write_config(const uint8_t *cfg, size_t cfg_length, uint32_t kind, uint8_t *out, size_t out_length);
 
 /*
- * Checks a data file against its layout: a analog and d status channels, the number of rows, and the kind.
+ * Checks a data file against its layout: a analog and d status channels, the number of rows, the kind, and the edition.
  *   Yes:    nothing is written; length is 0.
  *   No:     10; then the file. Binary kinds: 11, then row by row 12, 13. ASCII: row by row, in a row the first of 11 and
  *           14 that its scan up to CR LF meets, then 14 for the number of fields, then the fields from the left, in field 1
  *           14 and then 12, in the others 14; then 11 at row rows + 1 for what follows the last row.
  */
-zl_answer zl_check(uint32_t a, uint32_t d, uint32_t rows, uint32_t kind, const uint8_t *data, size_t data_length);
+zl_answer zl_check(uint32_t a, uint32_t d, uint32_t rows, uint32_t kind, uint32_t edition, const uint8_t *data,
+                   size_t data_length);
 
 /*
  * Shows row n, counted from 1, of a data file that is fine as a whole.
  * Each call checks the whole file, so that all rows one by one take time that grows with the square of their number:
  * 28 s for 10,000 rows of ASCII, 32 samples and 32 statuses each. For all rows, change the file to ZL_BINARY32 once, which
  * every sample fits, and read each row from its place, a sample of 80000000 hex as missing, as examples/c/all_rows.c does:
- * 0.05 s for the same file, printing included (processor time on x86-64).
- *   Yes:    1 + a + d places of shown are written, the time, the samples and the statuses; a sample is a number of the
- *           kind's range, or ZL_NONE where it is missing, and no other place is ZL_NONE; length is 0.
+ * 0.05 s for the same file, printing included (processor time on x86-64). The edition of 1999 lacks that kind, and there
+ * every sample fits ZL_ASCII: change the file to that once, and read its plain lines one after the other, a sample of 99999
+ * as missing, as the same example does.
+ *   Yes:    1 + a + d places of shown are written, the time, the samples and the statuses; a sample is a number in the
+ *           range of the kind and edition, or ZL_NONE where it is missing, and no other place is ZL_NONE; length is 0.
  *   No:     10; 15; then the file, as zl_check; last of all 17, where shown has fewer places.
  */
-zl_answer zl_row(uint32_t a, uint32_t d, uint32_t rows, uint32_t kind, const uint8_t *data, size_t data_length, uint32_t n,
-                 int64_t *shown, size_t shown_length);
+zl_answer zl_row(uint32_t a, uint32_t d, uint32_t rows, uint32_t kind, uint32_t edition, const uint8_t *data,
+                 size_t data_length, uint32_t n, int64_t *shown, size_t shown_length);
 
 /*
  * Writes a row, in the places of zl_row, as row n of a data file of that layout. No end mark is added. Places of the row
@@ -216,29 +240,30 @@ zl_answer zl_row(uint32_t a, uint32_t d, uint32_t rows, uint32_t kind, const uin
  *           for binary and 4 for binary32; a row of ASCII is in the plain form, with its CR LF. A sample of ZL_NONE is
  *           written as missing.
  *   No:     10, also where the row has fewer than 1 + a + d places; 15; 16 at row n and the first field from the left that
- *           does not fit: a time outside 32 bits unsigned, a sample that is neither ZL_NONE nor in the kind's range (so
- *           -2,147,483,648 in every kind, and -32,768 in binary), a status that is not 0 or 1; 17, where out is too short.
+ *           does not fit: a time outside 32 bits unsigned, a sample that is neither ZL_NONE nor in the range of the kind and
+ *           edition (so -2,147,483,648 in every kind, -32,768 in binary, and 99,999 in ASCII of 1999), a status that is not
+ *           0 or 1; 17, where out is too short.
  */
-zl_answer zl_write_row(uint32_t a, uint32_t d, uint32_t rows, uint32_t kind, uint32_t n, const int64_t *row,
-                       size_t row_length, uint8_t *out, size_t out_length);
+zl_answer zl_write_row(uint32_t a, uint32_t d, uint32_t rows, uint32_t kind, uint32_t edition, uint32_t n,
+                       const int64_t *row, size_t row_length, uint8_t *out, size_t out_length);
 
 /*
  * How many bytes the data file has once it is changed to new_kind.
  *   Yes:    length is that number; nothing is written.
  *   No:     as zl_change, but never 17.
  */
-zl_answer zl_length(uint32_t a, uint32_t d, uint32_t rows, uint32_t kind, const uint8_t *data, size_t data_length,
-                    uint32_t new_kind);
+zl_answer zl_length(uint32_t a, uint32_t d, uint32_t rows, uint32_t kind, uint32_t edition, const uint8_t *data,
+                    size_t data_length, uint32_t new_kind);
 
 /*
- * Changes a data file from its kind to new_kind, which may be the same: a text then comes out in its plain form. A missing
- * sample fits every kind and stays missing.
+ * Changes a data file from its kind to new_kind, which may be the same: a text then comes out in its plain form. The edition
+ * stays as it is. A missing sample fits every kind and stays missing.
  *   Yes:    length bytes of out are written, the new file; a text ends with the end mark, 1A 0D 0A hex.
- *   No:     10, of the layout and of new_kind; then the file, as zl_check; 16 at the first row and field whose sample is a
- *           number that does not fit new_kind; last of all 17, where out is too short.
+ *   No:     10, of the layout and of new_kind, which the edition must have; then the file, as zl_check; 16 at the first row
+ *           and field whose sample is a number that does not fit new_kind; last of all 17, where out is too short.
  */
-zl_answer zl_change(uint32_t a, uint32_t d, uint32_t rows, uint32_t kind, const uint8_t *data, size_t data_length,
-                    uint32_t new_kind, uint8_t *out, size_t out_length);
+zl_answer zl_change(uint32_t a, uint32_t d, uint32_t rows, uint32_t kind, uint32_t edition, const uint8_t *data,
+                    size_t data_length, uint32_t new_kind, uint8_t *out, size_t out_length);
 
 /*
  * The meaning of a refusal's number, as text to show: characters 32 to 126, with no 0 at the end.
@@ -258,9 +283,9 @@ static inline const char *zl_reason_text(uint32_t number)
     case ZL_REFUSED_FORM: return "wrong length or form of a field";
     case ZL_REFUSED_VALUE: return "a number, date, kind or code that is not allowed";
     case ZL_REFUSED_AGREEMENT: return "a total, index, last row or maximum that does not agree";
-    case ZL_REFUSED_YEAR: return "an edition that is not 2013";
+    case ZL_REFUSED_YEAR: return "an edition that is not 2013 or 1999";
     case ZL_REFUSED_BYTES_AFTER: return "bytes after the last line";
-    case ZL_REFUSED_LAYOUT: return "sizes or kind not allowed";
+    case ZL_REFUSED_LAYOUT: return "sizes, kind or edition not allowed";
     case ZL_REFUSED_FILE_LENGTH: return "wrong length of the file";
     case ZL_REFUSED_ROW_NUMBER: return "a row number that is not the row's";
     case ZL_REFUSED_PADDING: return "a padding bit is set";
@@ -277,10 +302,11 @@ static inline const char *zl_reason_text(uint32_t number)
  * whose name ends in _in hands its numbers on to the call of that name without _in, and answers and writes as that does.
  */
 typedef struct zl_layout {
-    uint32_t a;    /* analog channels */
-    uint32_t d;    /* status channels */
+    uint32_t a;       /* analog channels */
+    uint32_t d;       /* status channels */
     uint32_t rows;
-    uint32_t kind; /* ZL_ASCII, ZL_BINARY or ZL_BINARY32 */
+    uint32_t kind;    /* ZL_ASCII, ZL_BINARY or ZL_BINARY32 */
+    uint32_t edition; /* ZL_EDITION_2013 or ZL_EDITION_1999; left out of an initializer it is 0, and refused with 10 */
 } zl_layout;
 
 /* The layout in the places that zl_config wrote with a yes. */
@@ -291,35 +317,37 @@ static inline zl_layout zl_layout_of(const int64_t *shown)
     layout.d = (uint32_t)shown[ZL_SHOWN_STATUSES];
     layout.rows = (uint32_t)shown[ZL_SHOWN_ROWS];
     layout.kind = (uint32_t)shown[ZL_SHOWN_KIND];
+    layout.edition = (uint32_t)shown[ZL_SHOWN_EDITION];
     return layout;
 }
 
 static inline zl_answer zl_check_in(zl_layout layout, const uint8_t *data, size_t data_length)
 {
-    return zl_check(layout.a, layout.d, layout.rows, layout.kind, data, data_length);
+    return zl_check(layout.a, layout.d, layout.rows, layout.kind, layout.edition, data, data_length);
 }
 
 static inline zl_answer zl_row_in(zl_layout layout, const uint8_t *data, size_t data_length, uint32_t n, int64_t *shown,
                                   size_t shown_length)
 {
-    return zl_row(layout.a, layout.d, layout.rows, layout.kind, data, data_length, n, shown, shown_length);
+    return zl_row(layout.a, layout.d, layout.rows, layout.kind, layout.edition, data, data_length, n, shown, shown_length);
 }
 
 static inline zl_answer zl_write_row_in(zl_layout layout, uint32_t n, const int64_t *row, size_t row_length, uint8_t *out,
                                         size_t out_length)
 {
-    return zl_write_row(layout.a, layout.d, layout.rows, layout.kind, n, row, row_length, out, out_length);
+    return zl_write_row(layout.a, layout.d, layout.rows, layout.kind, layout.edition, n, row, row_length, out, out_length);
 }
 
 static inline zl_answer zl_length_in(zl_layout layout, const uint8_t *data, size_t data_length, uint32_t new_kind)
 {
-    return zl_length(layout.a, layout.d, layout.rows, layout.kind, data, data_length, new_kind);
+    return zl_length(layout.a, layout.d, layout.rows, layout.kind, layout.edition, data, data_length, new_kind);
 }
 
 static inline zl_answer zl_change_in(zl_layout layout, const uint8_t *data, size_t data_length, uint32_t new_kind,
                                      uint8_t *out, size_t out_length)
 {
-    return zl_change(layout.a, layout.d, layout.rows, layout.kind, data, data_length, new_kind, out, out_length);
+    return zl_change(layout.a, layout.d, layout.rows, layout.kind, layout.edition, data, data_length, new_kind, out,
+                     out_length);
 }
 
 #ifdef __cplusplus

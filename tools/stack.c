@@ -1,5 +1,5 @@
 /* Measures the stack that each call uses: a thread whose stack is painted makes the call, and the deepest word that lost its paint is looked for.
- * The calls run on the largest layout, A = 96 and D = 256, of each kind: on what is accepted and on what is refused late. The frame of the function that
+ * The calls run on the largest layout, A = 96 and D = 256, of each kind and edition: on what is accepted and on what is refused late. The frame of the function that
  * makes the call is counted in, since it holds the arguments that go by the stack. Prints a line for each call. */
 #include "zagalume.h"
 
@@ -12,18 +12,21 @@ enum { A = ZL_MOST_ANALOGS, D = ZL_MOST_STATUSES, ROWS = 3, STACK_WORDS = 1 << 1
 
 static const uint64_t paint = 0xA5A5A5A55A5A5A5A;
 
-static uint8_t cfg[ZL_MOST_CONFIG_BYTES], files[3][ROWS * ZL_MOST_ROW_BYTES], out[ZL_MOST_CONFIG_BYTES];
-static size_t cfg_length, file_lengths[3];
+static const uint32_t editions[2] = {ZL_EDITION_2013, ZL_EDITION_1999};
+
+static uint8_t cfg[ZL_MOST_CONFIG_BYTES], files[2][3][ROWS * ZL_MOST_ROW_BYTES], out[ZL_MOST_CONFIG_BYTES];
+static size_t cfg_length, file_lengths[2][3];
 static int64_t shown[ZL_MOST_ROW_PLACES], row[ZL_MOST_ROW_PLACES];
 
 static volatile uint64_t *stack;
 static size_t deepest;
 
-/* One call of the library with its arguments. kind and new_kind choose a file and what is made of it; room is what is lent to be written. */
+/* One call of the library with its arguments. edition, which counts the editions above, kind and new_kind choose a file and what is made of it; room is what is lent to be
+ * written. */
 struct call {
     const char *name;
     zl_answer (*make)(const struct call *call);
-    uint32_t kind, new_kind;
+    uint32_t edition, kind, new_kind;
     size_t room;
     zl_answer answer;
 };
@@ -40,27 +43,27 @@ static zl_answer make_write_config(const struct call *c)
 
 static zl_answer make_check(const struct call *c)
 {
-    return zl_check(A, D, ROWS, c->kind, files[c->kind], file_lengths[c->kind]);
+    return zl_check(A, D, ROWS, c->kind, editions[c->edition], files[c->edition][c->kind], file_lengths[c->edition][c->kind]);
 }
 
 static zl_answer make_row(const struct call *c)
 {
-    return zl_row(A, D, ROWS, c->kind, files[c->kind], file_lengths[c->kind], ROWS, shown, c->room);
+    return zl_row(A, D, ROWS, c->kind, editions[c->edition], files[c->edition][c->kind], file_lengths[c->edition][c->kind], ROWS, shown, c->room);
 }
 
 static zl_answer make_write_row(const struct call *c)
 {
-    return zl_write_row(A, D, ROWS, c->kind, ROWS, row, ZL_MOST_ROW_PLACES, out, c->room);
+    return zl_write_row(A, D, ROWS, c->kind, editions[c->edition], ROWS, row, ZL_MOST_ROW_PLACES, out, c->room);
 }
 
 static zl_answer make_length(const struct call *c)
 {
-    return zl_length(A, D, ROWS, c->kind, files[c->kind], file_lengths[c->kind], c->new_kind);
+    return zl_length(A, D, ROWS, c->kind, editions[c->edition], files[c->edition][c->kind], file_lengths[c->edition][c->kind], c->new_kind);
 }
 
 static zl_answer make_change(const struct call *c)
 {
-    return zl_change(A, D, ROWS, c->kind, files[c->kind], file_lengths[c->kind], c->new_kind, out, c->room);
+    return zl_change(A, D, ROWS, c->kind, editions[c->edition], files[c->edition][c->kind], file_lengths[c->edition][c->kind], c->new_kind, out, c->room);
 }
 
 static zl_answer make_reason(const struct call *c)
@@ -146,36 +149,41 @@ static void make_configuration(void)
     add("F,3");
 }
 
-/* A file of each kind whose samples fit every kind, the first of each row missing, made by the library itself. */
-static void make_files(void)
+/* A file of each kind that an edition has, whose samples fit every kind, the first of each row missing, made by the library itself. */
+static void make_files(uint32_t edition)
 {
     row[ZL_ROW_TIME] = UINT32_MAX;
     for (int k = 1; k < ZL_MOST_ROW_PLACES; k++)
         row[k] = k <= A ? -32767 : 1;
     row[ZL_ROW_SAMPLES] = ZL_NONE;
     for (uint32_t kind = ZL_ASCII; kind <= ZL_BINARY32; kind++) {
-        file_lengths[kind] = 0;
+        size_t length = 0;
         for (uint32_t n = 1; n <= ROWS; n++)
-            file_lengths[kind] += zl_write_row(A, D, ROWS, kind, n, row, ZL_MOST_ROW_PLACES, files[kind] + file_lengths[kind],
-                                               ZL_MOST_ROW_BYTES).length;
+            length += zl_write_row(A, D, ROWS, kind, editions[edition], n, row, ZL_MOST_ROW_PLACES, files[edition][kind] + length,
+                                   ZL_MOST_ROW_BYTES).length;
+        file_lengths[edition][kind] = length;
     }
 }
 
-/* The deepest use of a call over the kinds, with room and without, on a good file and on one whose last row is bad, for so many new kinds or numbers. */
+/* The deepest use of a call over the kinds and the editions, with room and without, on a good file and on one whose last row is bad, for so many new kinds or numbers. */
 static size_t deepest_of(struct call call, uint32_t numbers)
 {
     size_t most = 0, room = call.room;
-    for (uint32_t k = 0; k < 12 * numbers; k++) {
+    for (uint32_t k = 0; k < 24 * numbers; k++) {
         call.kind = k % 3;
         call.room = k / 3 % 2 == 0 ? room : 0;
-        call.new_kind = k / 12;
-        uint8_t *near_end = &files[call.kind][file_lengths[call.kind] - 3], kept = *near_end;
+        call.edition = k / 12 % 2;
+        call.new_kind = k / 24;
+        size_t length = file_lengths[call.edition][call.kind];
+        if (length == 0) /* the edition lacks the kind */
+            continue;
+        uint8_t *near_end = &files[call.edition][call.kind][length - 3], kept = *near_end;
         if (k / 6 % 2 == 1)
             *near_end = '!';
         depth(&call); /* once before it counts, so that the linker's own work at a first call is done */
         size_t used = depth(&call);
         *near_end = kept;
-        if (k % 12 == 0 && call.answer.number != ZL_YES) {
+        if (k % 24 == 0 && call.answer.number != ZL_YES) {
             fprintf(stderr, "stack: %s is refused with %u\n", call.name, (unsigned)call.answer.number);
             exit(1);
         }
@@ -186,14 +194,14 @@ static size_t deepest_of(struct call call, uint32_t numbers)
 
 int main(void)
 {
-    static const struct call config = {"zl_config", make_config, 0, 0, ZL_CONFIG_PLACES, {0, 0, 0, 0}};
-    static const struct call write_config = {"zl_write_config", make_write_config, 0, 0, sizeof out, {0, 0, 0, 0}};
-    static const struct call check = {"zl_check", make_check, 0, 0, 0, {0, 0, 0, 0}};
-    static const struct call show = {"zl_row", make_row, 0, 0, ZL_MOST_ROW_PLACES, {0, 0, 0, 0}};
-    static const struct call write = {"zl_write_row", make_write_row, 0, 0, sizeof out, {0, 0, 0, 0}};
-    static const struct call length = {"zl_length", make_length, 0, 0, 0, {0, 0, 0, 0}};
-    static const struct call change = {"zl_change", make_change, 0, 0, sizeof out, {0, 0, 0, 0}};
-    static const struct call reason = {"zl_reason", make_reason, 0, 0, sizeof out, {0, 0, 0, 0}};
+    static const struct call config = {"zl_config", make_config, 0, 0, 0, ZL_CONFIG_PLACES, {0, 0, 0, 0}};
+    static const struct call write_config = {"zl_write_config", make_write_config, 0, 0, 0, sizeof out, {0, 0, 0, 0}};
+    static const struct call check = {"zl_check", make_check, 0, 0, 0, 0, {0, 0, 0, 0}};
+    static const struct call show = {"zl_row", make_row, 0, 0, 0, ZL_MOST_ROW_PLACES, {0, 0, 0, 0}};
+    static const struct call write = {"zl_write_row", make_write_row, 0, 0, 0, sizeof out, {0, 0, 0, 0}};
+    static const struct call length = {"zl_length", make_length, 0, 0, 0, 0, {0, 0, 0, 0}};
+    static const struct call change = {"zl_change", make_change, 0, 0, 0, sizeof out, {0, 0, 0, 0}};
+    static const struct call reason = {"zl_reason", make_reason, 0, 0, 0, sizeof out, {0, 0, 0, 0}};
     const struct call *const calls[] = {&config, &write_config, &check, &show, &write, &length, &change, &reason};
     const uint32_t numbers[] = {1, 3, 1, 1, 1, 3, 3, ZL_REFUSED_NO_ROOM};
     void *memory;
@@ -201,7 +209,8 @@ int main(void)
         return 1;
     stack = memory;
     make_configuration();
-    make_files();
+    make_files(0);
+    make_files(1);
     for (size_t k = 0; k < sizeof calls / sizeof calls[0]; k++)
         printf("%-17s%zu\n", calls[k]->name, deepest_of(*calls[k], numbers[k]));
     free(memory);

@@ -29,8 +29,7 @@ static uint8_t *read_all(FILE *file, size_t *length)
     return bytes;
 }
 
-/* Reads a whole file. */
-static int read_file(const char *name, struct bytes *read)
+int read_file(const char *name, struct bytes *read)
 {
     FILE *file = fopen(name, "rb");
     read->start = file == NULL ? NULL : read_all(file, &read->length);
@@ -49,15 +48,20 @@ int say_refusal(const char *file, zl_answer answer)
     return REFUSED;
 }
 
+int show_config(struct bytes cfg, int64_t *shown)
+{
+    zl_answer answer = zl_config(cfg.start, cfg.length, shown, ZL_CONFIG_PLACES);
+    return answer.number == ZL_YES ? DONE : say_refusal("cfg", answer);
+}
+
 /* Takes the layout from a configuration. */
 static int take_layout(struct bytes cfg, zl_layout *layout)
 {
     int64_t shown[ZL_CONFIG_PLACES];
-    zl_answer answer = zl_config(cfg.start, cfg.length, shown, ZL_CONFIG_PLACES);
-    if (answer.number != ZL_YES)
-        return say_refusal("cfg", answer);
-    *layout = zl_layout_of(shown);
-    return DONE;
+    int status = show_config(cfg, shown);
+    if (status == DONE)
+        *layout = zl_layout_of(shown);
+    return status;
 }
 
 int load(const char *cfg_name, const char *dat_name, struct recording *recording)

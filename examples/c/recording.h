@@ -27,6 +27,12 @@ struct recording {
 /* The kinds' words, by number. */
 extern const char *const kind_words[3];
 
+/* Reads a whole file. */
+int read_file(const char *name, struct bytes *read);
+
+/* Shows a configuration in ZL_CONFIG_PLACES places. */
+int show_config(struct bytes cfg, int64_t *shown);
+
 /* Loads a recording. The data file is not checked yet. */
 int load(const char *cfg_name, const char *dat_name, struct recording *recording);
 

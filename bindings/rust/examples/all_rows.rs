@@ -1,6 +1,6 @@
 //! all_rows CONFIGURATION DATA: prints every row of a recording of any kind, as the listing does, in time that grows with its bytes.
-//! `zagalume::row` checks the whole data file at each call; here the file is checked and changed to binary32 once, which every sample fits, and then each row is read from
-//! its place. A missing sample is printed as x.
+//! `zagalume::row` checks the whole data file at each call; here the file is checked once and changed to a kind that every sample fits, and then the rows are read one after
+//! the other. That kind is binary32; the edition of 1999 lacks it, and there it is ASCII. A missing sample is printed as x.
 
 mod recording;
 
@@ -8,7 +8,7 @@ use recording::{load, print_layout, print_row, run, Failure};
 use std::ffi::OsString;
 use std::io::{self, BufWriter, Write};
 use std::process::ExitCode;
-use zagalume::{Kind, Layout, Row, Sample};
+use zagalume::{Edition, Kind, Layout, Row, Sample};
 
 // A row of binary32: 4 bytes of number, 4 of time, 4 for each sample and 2 for each 16 statuses, or a part of 16.
 const TIME: usize = 4;
@@ -16,8 +16,9 @@ const SAMPLES: usize = 8;
 const SAMPLE_SIZE: usize = 4;
 const STATUS_WORD_SIZE: usize = 2;
 
-// The word that is kept for a missing sample.
+// What is kept for a missing sample: a word in binary32, a number in a text of 1999.
 const MISSING_WORD: u32 = 0x8000_0000;
+const MISSING_NUMBER: i64 = 99_999;
 
 fn row_size(layout: Layout) -> usize {
     SAMPLES + SAMPLE_SIZE * layout.analogs as usize + STATUS_WORD_SIZE * layout.statuses.div_ceil(16) as usize
@@ -36,13 +37,45 @@ fn sample_of(word: u32) -> Sample {
     }
 }
 
-/// Reads a row from its bytes. Status k, from 0, is bit k of the words, the lowest first.
-fn read_row(layout: Layout, bytes: &[u8]) -> Row {
+/// Reads a row of binary32 from its bytes. Status k, from 0, is bit k of the words, the lowest first.
+fn read_bytes(layout: Layout, bytes: &[u8]) -> Row {
     let (samples, statuses) = bytes[SAMPLES..].split_at(SAMPLE_SIZE * layout.analogs as usize);
     Row {
         time: word(&bytes[TIME..]),
         samples: samples.chunks_exact(SAMPLE_SIZE).map(|sample| sample_of(word(sample))).collect(),
         statuses: (0..layout.statuses as usize).map(|k| statuses[k / 8] >> (k % 8) & 1 == 1).collect(),
+    }
+}
+
+/// The sample that a number in a text of 1999 says.
+fn sample_said(number: i64) -> Sample {
+    match number {
+        MISSING_NUMBER => Sample::Missing,
+        number => Sample::Is(number as i32),
+    }
+}
+
+/// Reads a row from its plain line in a text of 1999. The first field, the row's number, is not in the row.
+fn read_line(layout: Layout, line: &str) -> Row {
+    let number = |field: &str| field.parse().expect("a plain field is a number");
+    let numbers: Vec<i64> = line.split(',').skip(1).map(number).collect();
+    let (samples, statuses) = numbers[1..].split_at(layout.analogs as usize);
+    Row {
+        time: numbers[0] as u32,
+        samples: samples.iter().map(|&number| sample_said(number)).collect(),
+        statuses: statuses.iter().map(|&status| status == 1).collect(),
+    }
+}
+
+/// The rows of a data file that is fine, one after the other, as lines of text or as bytes.
+fn print_rows(out: &mut impl Write, layout: Layout, new_kind: Kind, file: &[u8]) -> io::Result<()> {
+    let rows = 1..=layout.rows;
+    if new_kind == Kind::Ascii {
+        let lines = file.split(|&byte| byte == b'\n').map(|line| String::from_utf8_lossy(line));
+        rows.zip(lines).try_for_each(|(n, line)| print_row(out, n, &read_line(layout, line.trim_end())))
+    } else {
+        let chunks = file.chunks_exact(row_size(layout));
+        rows.zip(chunks).try_for_each(|(n, bytes)| print_row(out, n, &read_bytes(layout, bytes)))
     }
 }
 
@@ -52,12 +85,11 @@ fn all_rows(words: &[OsString]) -> Result<(), Failure> {
     };
     let recording = load(cfg, dat)?;
     let layout = recording.layout;
-    let binary32 = zagalume::change(layout, &recording.data, Kind::Binary32).map_err(Failure::DataFile)?;
+    let new_kind = if layout.edition == Edition::Year1999 { Kind::Ascii } else { Kind::Binary32 };
+    let changed = zagalume::change(layout, &recording.data, new_kind).map_err(Failure::DataFile)?;
     let mut out = BufWriter::new(io::stdout().lock());
     print_layout(&mut out, layout)?;
-    for (n, bytes) in (1..).zip(binary32.chunks_exact(row_size(layout))) {
-        print_row(&mut out, n, &read_row(layout, bytes))?;
-    }
+    print_rows(&mut out, layout, new_kind, &changed)?;
     out.flush()?;
     Ok(())
 }

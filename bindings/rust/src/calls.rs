@@ -7,6 +7,11 @@ use zagalume_raw::{
     zl_change, zl_check, zl_config, zl_length, zl_reason, zl_row, zl_write_config, zl_write_row, Answer,
 };
 
+/// A layout as the calls take it.
+fn numbers(l: Layout) -> (u32, u32, u32, u32, u32) {
+    (l.analogs, l.statuses, l.rows, l.kind.number(), l.edition.year())
+}
+
 /// Yes with the length, or no.
 fn told(answer: Answer) -> Result<usize, Refusal> {
     match answer.number {
@@ -26,32 +31,34 @@ pub fn write_config(cfg: &[u8], kind: u32, out: &mut [u8]) -> Result<usize, Refu
 }
 
 pub fn check(l: Layout, data: &[u8]) -> Result<usize, Refusal> {
+    let (a, d, rows, kind, edition) = numbers(l);
     // SAFETY: as in config.
-    told(unsafe { zl_check(l.analogs, l.statuses, l.rows, l.kind.number(), data.as_ptr(), data.len()) })
+    told(unsafe { zl_check(a, d, rows, kind, edition, data.as_ptr(), data.len()) })
 }
 
 pub fn row(l: Layout, data: &[u8], n: u32, shown: &mut [i64]) -> Result<usize, Refusal> {
-    let (a, d, rows, kind) = (l.analogs, l.statuses, l.rows, l.kind.number());
+    let (a, d, rows, kind, edition) = numbers(l);
     // SAFETY: as in config.
-    told(unsafe { zl_row(a, d, rows, kind, data.as_ptr(), data.len(), n, shown.as_mut_ptr(), shown.len()) })
+    told(unsafe { zl_row(a, d, rows, kind, edition, data.as_ptr(), data.len(), n, shown.as_mut_ptr(), shown.len()) })
 }
 
 pub fn write_row(l: Layout, n: u32, row: &[i64], out: &mut [u8]) -> Result<usize, Refusal> {
-    let (a, d, rows, kind) = (l.analogs, l.statuses, l.rows, l.kind.number());
+    let (a, d, rows, kind, edition) = numbers(l);
     // SAFETY: as in config.
-    told(unsafe { zl_write_row(a, d, rows, kind, n, row.as_ptr(), row.len(), out.as_mut_ptr(), out.len()) })
+    told(unsafe { zl_write_row(a, d, rows, kind, edition, n, row.as_ptr(), row.len(), out.as_mut_ptr(), out.len()) })
 }
 
 pub fn length(l: Layout, data: &[u8], new_kind: u32) -> Result<usize, Refusal> {
-    let (a, d, rows, kind) = (l.analogs, l.statuses, l.rows, l.kind.number());
+    let (a, d, rows, kind, edition) = numbers(l);
     // SAFETY: as in config.
-    told(unsafe { zl_length(a, d, rows, kind, data.as_ptr(), data.len(), new_kind) })
+    told(unsafe { zl_length(a, d, rows, kind, edition, data.as_ptr(), data.len(), new_kind) })
 }
 
 pub fn change(l: Layout, data: &[u8], new_kind: u32, out: &mut [u8]) -> Result<usize, Refusal> {
-    let (a, d, rows, kind) = (l.analogs, l.statuses, l.rows, l.kind.number());
+    let (a, d, rows, kind, edition) = numbers(l);
+    let (data, length, out, room) = (data.as_ptr(), data.len(), out.as_mut_ptr(), out.len());
     // SAFETY: as in config.
-    told(unsafe { zl_change(a, d, rows, kind, data.as_ptr(), data.len(), new_kind, out.as_mut_ptr(), out.len()) })
+    told(unsafe { zl_change(a, d, rows, kind, edition, data, length, new_kind, out, room) })
 }
 
 pub fn reason(number: u32, out: &mut [u8]) -> Result<usize, Refusal> {

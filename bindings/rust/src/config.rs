@@ -1,6 +1,7 @@
 //! Configurations: what an accepted one shows, and one written for another kind.
 
-use crate::{calls, limits, Kind, Layout, Refusal};
+use crate::{calls, limits, Edition, Kind, Layout, Refusal};
+use zagalume_raw::ZL_NONE;
 
 /// What an accepted configuration shows.
 #[derive(Debug, Clone, Copy, PartialEq, Eq, Hash)]
@@ -23,6 +24,15 @@ pub struct Config {
     pub pre_trigger: PreTrigger,
     /// The kind of the data file.
     pub kind: Kind,
+    /// What the last two lines say; `None` where the edition is 1999, which has no such lines, and never else.
+    pub last: Option<LastLines>,
+    /// The edition, by the year in line 1.
+    pub edition: Edition,
+}
+
+/// What the last two lines of a configuration of 2013 say: the time codes and the time quality.
+#[derive(Debug, Clone, Copy, PartialEq, Eq, Hash)]
+pub struct LastLines {
     /// The time code, in minutes.
     pub time_code: i32,
     /// The local code, in minutes; `None` where it is x.
@@ -64,7 +74,8 @@ pub struct PreTrigger {
 impl Config {
     /// The layout of the data file: what the other calls ask for.
     pub fn layout(&self) -> Layout {
-        Layout { analogs: self.analogs, statuses: self.statuses, rows: self.rows, kind: self.kind }
+        let Config { analogs, statuses, rows, kind, edition, .. } = *self;
+        Layout { analogs, statuses, rows, kind, edition }
     }
 
     /// The configuration that the places of the library's call show.
@@ -83,11 +94,24 @@ impl Config {
             trigger: Moment::shown(&p[19..26]),
             pre_trigger: PreTrigger { seconds: p[26], nanoseconds: p[27] as u32 },
             kind: Kind::of_number(p[28] as u32).expect("an accepted configuration shows a kind"),
-            time_code: p[29] as i32,
-            local_code: if p[30] == 1 { None } else { Some(p[31] as i32) },
-            quality: p[32] as u8,
-            leap_code: p[33] as u8,
+            last: LastLines::shown(&p[29..34]),
+            edition: Edition::of_year(p[34] as u32).expect("an accepted configuration shows an edition"),
         }
+    }
+}
+
+impl LastLines {
+    /// The lines that five places show, where the configuration has them. That there are none comes first, and the second place is compared with 1: there `ZL_NONE` is no x.
+    fn shown(p: &[i64]) -> Option<LastLines> {
+        if p[0] == ZL_NONE {
+            return None;
+        }
+        Some(LastLines {
+            time_code: p[0] as i32,
+            local_code: if p[1] == 1 { None } else { Some(p[2] as i32) },
+            quality: p[3] as u8,
+            leap_code: p[4] as u8,
+        })
     }
 }
 
@@ -118,6 +142,18 @@ impl Moment {
 /// assert_eq!((config.pre_trigger.seconds, config.pre_trigger.nanoseconds), (0, 1_000_000));
 /// # Ok::<(), zagalume::Refusal>(())
 /// ```
+///
+/// One of 1999 has no time codes, no quality and no leap code:
+///
+/// ```
+/// let config = zagalume::read_config(include_bytes!("../../../examples/one-1999.cfg"))?;
+/// match config.last {
+///     Some(lines) => println!("quality {}", lines.quality),
+///     None => println!("quality absent"),
+/// }
+/// assert_eq!((config.edition, config.last), (zagalume::Edition::Year1999, None));
+/// # Ok::<(), zagalume::Refusal>(())
+/// ```
 pub fn read_config(cfg: &[u8]) -> Result<Config, Refusal> {
     let mut shown = [0; limits::CONFIG_PLACES];
     calls::config(cfg, &mut shown)?;
@@ -125,9 +161,9 @@ pub fn read_config(cfg: &[u8]) -> Result<Config, Refusal> {
 }
 
 /// The configuration for a data file of that kind: the kind's word as [`Kind::word`] has it, numbers and codes without the spaces before them, every other field as it
-/// stands, and CR LF on each line. It is accepted and shows the same in all but the kind, and written again to that kind it stays as it is.
+/// stands, the year too, and CR LF on each line. It is accepted and shows the same in all but the kind, and written again to that kind it stays as it is.
 ///
-/// Refused as [`read_config`]; then with 1, where it would have more than 65,536 bytes.
+/// Refused as [`read_config`]; then with 10, where its edition lacks the kind; then with 1, where it would have more than 65,536 bytes.
 ///
 /// ```
 /// let cfg = include_bytes!("../../../examples/one.cfg");

@@ -7,11 +7,11 @@ use zagalume_raw::ZL_NONE;
 /// The kind of data file.
 #[derive(Debug, Clone, Copy, PartialEq, Eq, Hash)]
 pub enum Kind {
-    /// Rows of text; samples are -2,147,483,647 to 2,147,483,647.
+    /// Rows of text; samples are -2,147,483,647 to 2,147,483,647, or in the edition of 1999 -99,999 to 99,998.
     Ascii,
     /// Samples of 2 bytes, -32,767 to 32,767.
     Binary,
-    /// Samples of 4 bytes, -2,147,483,647 to 2,147,483,647.
+    /// Samples of 4 bytes, -2,147,483,647 to 2,147,483,647. The edition of 1999 lacks this kind.
     Binary32,
 }
 
@@ -56,7 +56,50 @@ impl fmt::Display for Kind {
     }
 }
 
-/// The layout of a data file. [`Config::layout`](crate::Config::layout) takes it from a configuration; one outside the limits is refused with 10 by every call.
+/// The edition of the standard that a recording is written by.
+#[derive(Debug, Clone, Copy, PartialEq, Eq, Hash)]
+pub enum Edition {
+    /// 2013, with all three kinds. In a text an empty field is a missing sample.
+    Year2013,
+    /// 1999, with the kinds ASCII and binary. In a text 99999 is a missing sample, and an empty field is refused. A configuration has no time codes, no quality and no leap
+    /// code.
+    Year1999,
+}
+
+impl Edition {
+    /// The edition's year, which is its number in the library's calls: 2013 or 1999.
+    pub fn year(self) -> u32 {
+        match self {
+            Edition::Year2013 => 2013,
+            Edition::Year1999 => 1999,
+        }
+    }
+
+    /// The edition of a year.
+    ///
+    /// ```
+    /// assert_eq!(zagalume::Edition::of_year(1999), Some(zagalume::Edition::Year1999));
+    /// assert_eq!(zagalume::Edition::of_year(1991), None);
+    /// ```
+    pub fn of_year(year: u32) -> Option<Edition> {
+        [Edition::Year2013, Edition::Year1999].into_iter().find(|edition| edition.year() == year)
+    }
+
+    /// Whether the edition has a kind: 2013 has each of them, 1999 all but binary32.
+    pub fn has(self, kind: Kind) -> bool {
+        self == Edition::Year2013 || kind != Kind::Binary32
+    }
+}
+
+impl fmt::Display for Edition {
+    /// The year.
+    fn fmt(&self, f: &mut fmt::Formatter<'_>) -> fmt::Result {
+        self.year().fmt(f)
+    }
+}
+
+/// The layout of a data file. [`Config::layout`](crate::Config::layout) takes it from a configuration; one outside the limits, or with a kind that its edition lacks, is
+/// refused with 10 by every call.
 #[derive(Debug, Clone, Copy, PartialEq, Eq, Hash)]
 pub struct Layout {
     /// A, the number of analog channels, 0 to 96.
@@ -67,6 +110,8 @@ pub struct Layout {
     pub rows: u32,
     /// The kind of the data file.
     pub kind: Kind,
+    /// The edition.
+    pub edition: Edition,
 }
 
 impl Layout {
@@ -92,7 +137,7 @@ impl Layout {
 /// # Ok::<(), zagalume::Refusal>(())
 /// ```
 ///
-/// In a file it is 8000 hex in binary, 80000000 hex in binary32 and an empty field in text, and a change of kind leaves it missing.
+/// In a file it is 8000 hex in binary, 80000000 hex in binary32, an empty field in a text of 2013 and 99999 in a text of 1999, and a change of kind leaves it missing.
 #[derive(Debug, Clone, Copy, PartialEq, Eq, Hash)]
 pub enum Sample {
     /// A sample. No kind has the number -2,147,483,648: to write it is refused with 16.
@@ -200,7 +245,8 @@ pub fn check(layout: Layout, data: &[u8]) -> Result<(), Refusal> {
 ///
 /// Each call checks the whole file, so that all rows one by one take time that grows with the square of their number: 28 s for 10,000 rows of ASCII, 32 samples and 32
 /// statuses each. For all rows, [`change`] the file to [`Kind::Binary32`] once, which every sample fits, and read each row from its place, a sample of 80000000 hex as
-/// missing, as the example `all_rows` does: 0.05 s for the same file, printing included (processor time on x86-64).
+/// missing, as the example `all_rows` does: 0.05 s for the same file, printing included (processor time on x86-64). The edition of 1999 lacks that kind: there it is
+/// [`Kind::Ascii`] that every sample fits, and a sample of 99999 is missing.
 ///
 /// Refused with 10; 15; then for the file, as [`check`].
 ///
@@ -230,13 +276,15 @@ pub fn row_into(layout: Layout, data: &[u8], n: u32, shown: &mut [i64]) -> Resul
 
 /// The bytes of a row, as row n of a data file of that layout. No end mark is added.
 ///
-/// Refused with 10, also where the row has not A samples and D statuses; 15; 16 at row n and the first field whose sample is a number that does not fit the kind.
+/// Refused with 10, also where the row has not A samples and D statuses; 15; 16 at row n and the first field whose sample is a number that does not fit the kind and edition.
 ///
 /// ```
-/// use zagalume::{Kind, Layout, Row, Sample};
-/// let layout = Layout { analogs: 2, statuses: 1, rows: 2, kind: Kind::Ascii };
+/// use zagalume::{Edition, Kind, Layout, Row, Sample};
+/// let layout = Layout { analogs: 2, statuses: 1, rows: 2, kind: Kind::Ascii, edition: Edition::Year2013 };
 /// let row = Row { time: 1000, samples: vec![Sample::Missing, Sample::Is(300)], statuses: vec![true] };
 /// assert_eq!(zagalume::write_row(layout, 2, &row)?, b"2,1000,,300,1\r\n");
+/// let older = Layout { edition: Edition::Year1999, ..layout };
+/// assert_eq!(zagalume::write_row(older, 2, &row)?, b"2,1000,99999,300,1\r\n");
 /// # Ok::<(), zagalume::Refusal>(())
 /// ```
 pub fn write_row(layout: Layout, n: u32, row: &Row) -> Result<Vec<u8>, Refusal> {
@@ -271,9 +319,9 @@ pub fn bytes_needed(layout: Layout, data: &[u8], new_kind: Kind) -> Result<usize
     calls::length(layout, data, new_kind.number())
 }
 
-/// The data file in another kind, or in the same: a text is then in its plain form. A missing sample fits every kind and stays missing.
+/// The data file in another kind of its edition, or in the same: a text is then in its plain form. A missing sample fits every kind and stays missing.
 ///
-/// Refused with 10; then for the file, as [`check`]; then with 16 at the first row and field whose sample is a number that does not fit the new kind.
+/// Refused with 10, also where the edition lacks the new kind; then for the file, as [`check`]; then with 16 at the first row and field whose sample is a number that does not fit the new kind.
 ///
 /// ```
 /// let cfg = include_bytes!("../../../examples/one.cfg");

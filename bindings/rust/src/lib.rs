@@ -1,11 +1,12 @@
-//! Zagalume, a proved loader of COMTRADE recordings (IEC 60255-24:2013; data files of the kinds ASCII, binary and binary32), as safe Rust over its static library.
+//! Zagalume, a proved loader of COMTRADE recordings (IEC 60255-24:2013, and the edition of 1999; data files of the kinds ASCII, binary and binary32), as safe Rust over its
+//! static library.
 //!
 //! A recording is a configuration and a data file. [`read_config`] gives the [`Layout`] that the other calls ask for; [`check`] tells whether a data file is fine,
 //! [`row`] shows a row, [`write_row`] writes one, [`bytes_needed`] and [`change`] turn a data file into another kind, and [`write_config`] gives the configuration that goes
 //! with it. A file that breaks a rule gives a [`Refusal`], with its number and its place; [`reason`] says a number in words. On a refusal nothing that was lent has
 //! changed.
 //!
-//! A sample may be missing, and is then no number: a [`Sample`] says which.
+//! A sample may be missing, and is then no number: a [`Sample`] says which. A configuration of 1999 has no time codes and no quality: [`Config::last`] is then `None`.
 //!
 //! ```no_run
 //! use zagalume::Sample;
@@ -27,8 +28,9 @@
 //! number, 4 of time, 4 for each sample and 2 for each 16 statuses, the low byte and the low bit first. That is 0.05 s in place of 28 s for 10,000 rows of ASCII with 32
 //! samples and 32 statuses each (processor time on x86-64).
 //!
-//! There 80000000 hex is a missing sample: taken for a number, it would be a full negative swing that was never there. The example `all_rows` reads whole rows; these are the
-//! first samples:
+//! There 80000000 hex is a missing sample: taken for a number, it would be a full negative swing that was never there. The edition of 1999 lacks that kind: there every sample
+//! fits ASCII, a file changed to which is in its plain form, and a sample of 99999 is missing. The example `all_rows` reads whole rows of both; these are the first samples of
+//! one of 2013:
 //!
 //! ```
 //! use zagalume::Sample;
@@ -59,9 +61,10 @@ mod config;
 mod data;
 mod refusal;
 
-pub use config::{read_config, write_config, write_config_into, Config, Moment, PreTrigger};
+pub use config::{read_config, write_config, write_config_into, Config, LastLines, Moment, PreTrigger};
 pub use data::{
-    bytes_needed, change, change_into, check, row, row_into, write_row, write_row_into, Kind, Layout, Row, Sample,
+    bytes_needed, change, change_into, check, row, row_into, write_row, write_row_into, Edition, Kind, Layout, Row,
+    Sample,
 };
 pub use refusal::{reason, reason_into, refused, Refusal};
 
@@ -78,7 +81,7 @@ pub mod limits {
     /// The most rows.
     pub const MOST_ROWS: usize = 1_000_000;
     /// The places that the library shows of a configuration.
-    pub(crate) const CONFIG_PLACES: usize = 34;
+    pub(crate) const CONFIG_PLACES: usize = 35;
     /// The most places of a row: 1 + 96 + 256.
     pub const MOST_ROW_PLACES: usize = 353;
     /// Room for any row, CR LF included.

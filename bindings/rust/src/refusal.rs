@@ -76,15 +76,16 @@ pub mod refused {
     pub const FIELD_COUNT: u32 = 4;
     /// A field's length or form; at that line and field.
     pub const FORM: u32 = 5;
-    /// A field's number, date, kind or code is not allowed; at that line and field.
+    /// A field's number, date, kind or code is not allowed, or the edition lacks the kind; at that line and field.
     pub const VALUE: u32 = 6;
     /// TT is not A + D (at D), a wrong index, a last row that does not rise, or max below min (at max); at that line and field.
     pub const AGREEMENT: u32 = 7;
-    /// A year of four digits that is not 2013; at that line and field.
+    /// A year of four digits that is not 2013 or 1999; at that line and field.
     pub const YEAR: u32 = 8;
-    /// Bytes after the last line; at the line after it.
+    /// Bytes after the last line, which in 1999 is the time multiplier's; at the line after it.
     pub const BYTES_AFTER: u32 = 9;
-    /// The layout is outside the limits, a row to write has the wrong number of samples or statuses, or a refusal asked for has no meaning.
+    /// The layout is outside the limits, the edition lacks its kind or the new kind, a row to write has the wrong number of samples or statuses, or a refusal asked for has
+    /// no meaning.
     pub const LAYOUT: u32 = 10;
     /// Wrong length of the data file; for ASCII at the row before or inside which it ends, or at the row after the last.
     pub const FILE_LENGTH: u32 = 11;
@@ -92,7 +93,8 @@ pub mod refused {
     pub const ROW_NUMBER: u32 = 12;
     /// A padding bit is set; at that row.
     pub const PADDING: u32 = 13;
-    /// A row or a field of a text is bad; at that row and field, or that row and field 0 for the whole row. A sample's field may be empty: the sample is missing.
+    /// A row or a field of a text is bad; at that row and field, or that row and field 0 for the whole row. A sample's field may be empty in 2013, where the
+    /// sample is missing; in 1999 it is bad.
     pub const TEXT_ROW: u32 = 14;
     /// There is no such row.
     pub const NO_SUCH_ROW: u32 = 15;

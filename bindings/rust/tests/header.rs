@@ -1,7 +1,7 @@
 //! The names and numbers of include/zagalume.h are those of this crate, and its calls those of `zagalume-raw`.
 
 use std::collections::BTreeMap;
-use zagalume::{limits, refused, Kind, Sample};
+use zagalume::{limits, refused, Edition, Kind, Sample};
 
 const HEADER: &str = include_str!("../../../include/zagalume.h");
 
@@ -28,6 +28,13 @@ fn kinds() {
     for (name, kind) in [("ASCII", Kind::Ascii), ("BINARY", Kind::Binary), ("BINARY32", Kind::Binary32)] {
         assert_eq!(named()[name], kind.number() as usize);
     }
+}
+
+#[test]
+fn editions() {
+    let numbers = [("2013", Edition::Year2013), ("1999", Edition::Year1999)];
+    let ours = numbers.map(|(name, edition)| (name, edition.year() as usize));
+    assert_eq!(BTreeMap::from(ours), named_after("EDITION_"));
 }
 
 #[test]

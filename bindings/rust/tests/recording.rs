@@ -1,6 +1,7 @@
-//! Two recordings in their three kinds, from the repository's examples, one of them with missing samples: read, checked, shown, written and changed.
+//! Two recordings in their three kinds, from the repository's examples, one of them with missing samples, and one of the edition of 1999 in its two: read, checked, shown,
+//! written and changed.
 
-use zagalume::{Config, Kind, Layout, Moment, PreTrigger, Row, Sample};
+use zagalume::{Config, Edition, Kind, LastLines, Layout, Moment, PreTrigger, Row, Sample};
 
 const ONE: [(&[u8], &[u8], Kind); 3] = [
     (include_bytes!("../../../examples/one.cfg"), include_bytes!("../../../examples/one.dat"), Kind::Ascii),
@@ -31,8 +32,22 @@ const MISSING: [(&[u8], &[u8], Kind); 3] = [
     ),
 ];
 
+/// The first recording, of the edition of 1999.
+const OLDER: [(&[u8], &[u8], Kind); 2] = [
+    (include_bytes!("../../../examples/one-1999.cfg"), include_bytes!("../../../examples/one-1999.dat"), Kind::Ascii),
+    (
+        include_bytes!("../../../examples/one-1999-binary.cfg"),
+        include_bytes!("../../../examples/one-1999-binary.dat"),
+        Kind::Binary,
+    ),
+];
+
 fn layout(kind: Kind) -> Layout {
-    Layout { analogs: 1, statuses: 1, rows: 2, kind }
+    Layout { analogs: 1, statuses: 1, rows: 2, kind, edition: Edition::Year2013 }
+}
+
+fn older_layout(kind: Kind) -> Layout {
+    Layout { edition: Edition::Year1999, ..layout(kind) }
 }
 
 fn rows() -> [Row; 2] {
@@ -43,7 +58,7 @@ fn rows() -> [Row; 2] {
 }
 
 fn missing_layout(kind: Kind) -> Layout {
-    Layout { analogs: 2, statuses: 1, rows: 4, kind }
+    Layout { analogs: 2, statuses: 1, rows: 4, kind, edition: Edition::Year2013 }
 }
 
 fn missing_rows() -> [Row; 4] {
@@ -65,8 +80,8 @@ fn a_configuration_shows_every_field() {
         assert_eq!((config.rates, config.last_rows), (1, [2, 0, 0, 0, 0, 0, 0, 0]));
         assert_eq!((config.first_sample, config.trigger), (moment(0), moment(1_000_000)));
         assert_eq!(config.pre_trigger, PreTrigger { seconds: 0, nanoseconds: 1_000_000 });
-        assert_eq!((config.time_code, config.local_code), (0, Some(0)));
-        assert_eq!((config.quality, config.leap_code), (0, 3));
+        let last = LastLines { time_code: 0, local_code: Some(0), quality: 0, leap_code: 3 };
+        assert_eq!((config.edition, config.last), (Edition::Year2013, Some(last)));
     }
 }
 
@@ -77,8 +92,62 @@ fn codes_quality_and_a_trigger_before_the_first_sample() {
     let cfg = swapped.replace("\r\n0,0\r\n0,3", "\r\n-5h30,x\r\nF,1");
     let config = zagalume::read_config(cfg.as_bytes()).unwrap();
     assert_eq!(config.pre_trigger, PreTrigger { seconds: -1, nanoseconds: 999_000_000 });
-    assert_eq!((config.time_code, config.local_code), (-330, None));
-    assert_eq!((config.quality, config.leap_code), (15, 1));
+    assert_eq!(config.last, Some(LastLines { time_code: -330, local_code: None, quality: 15, leap_code: 1 }));
+}
+
+#[test]
+fn what_the_edition_of_1999_lacks_is_absent() {
+    for ((cfg, dat, kind), (newer, _, _)) in OLDER.into_iter().zip(ONE) {
+        let config = zagalume::read_config(cfg).unwrap();
+        let shown = zagalume::read_config(newer).unwrap();
+        assert_eq!(config, Config { edition: Edition::Year1999, last: None, ..shown });
+        assert_eq!(config.layout(), older_layout(kind));
+        zagalume::check(config.layout(), dat).unwrap();
+        for (n, row) in (1..).zip(rows()) {
+            assert_eq!(zagalume::row(config.layout(), dat, n).unwrap(), row);
+        }
+        assert_eq!(zagalume::read_config(&cfg[..cfg.len() - 2]), Ok(config));
+    }
+}
+
+#[test]
+fn a_recording_of_1999_is_changed_within_its_edition() {
+    for (cfg, dat, kind) in OLDER {
+        for (new_cfg, new_dat, new_kind) in OLDER {
+            assert_eq!(zagalume::write_config(cfg, new_kind).unwrap(), new_cfg);
+            assert_eq!(zagalume::bytes_needed(older_layout(kind), dat, new_kind), Ok(new_dat.len()));
+            assert_eq!(zagalume::change(older_layout(kind), dat, new_kind).unwrap(), new_dat);
+        }
+    }
+}
+
+#[test]
+fn the_mark_of_a_missing_sample_in_1999() {
+    let older = Layout { rows: 1, ..older_layout(Kind::Ascii) };
+    let newer = Layout { edition: Edition::Year2013, ..older };
+    let samples = |layout, file: &[u8]| zagalume::row(layout, file, 1).unwrap().samples;
+    for field in ["99999", "+99999", "  99999", "0000000099999"] {
+        let text = format!("1,0,{field},0\r\n");
+        let text = text.as_bytes();
+        assert_eq!(samples(newer, text), [Sample::Is(99_999)]);
+        assert_eq!(samples(older, text), [Sample::Missing]);
+        let plain = zagalume::change(older, text, Kind::Ascii).unwrap();
+        assert_eq!(plain, b"1,0,99999,0\r\n\x1A\r\n");
+        let binary = zagalume::change(older, text, Kind::Binary).unwrap();
+        assert_eq!(binary, [1, 0, 0, 0, 0, 0, 0, 0, 0, 0x80, 0, 0]);
+        let back = zagalume::change(Layout { kind: Kind::Binary, ..older }, &binary, Kind::Ascii);
+        assert_eq!(back.unwrap(), plain);
+    }
+    let row = Row { time: 5, samples: vec![Sample::Missing], statuses: vec![true] };
+    assert_eq!(zagalume::write_row(older, 1, &row).unwrap(), b"1,5,99999,1\r\n");
+    assert_eq!(zagalume::write_row(newer, 1, &row).unwrap(), b"1,5,,1\r\n");
+}
+
+#[test]
+fn the_example_with_a_missing_sample_in_1999() {
+    let layout = zagalume::read_config(include_bytes!("../../../examples/missing-1999.cfg")).unwrap().layout();
+    let row = zagalume::row(layout, include_bytes!("../../../examples/missing-1999.dat"), 1).unwrap();
+    assert_eq!(row, Row { time: 0, samples: vec![Sample::Missing], statuses: vec![false] });
 }
 
 #[test]
@@ -217,7 +286,7 @@ fn what_is_lent_past_the_answer_stays_as_it_was() {
 #[test]
 fn the_largest_row_of_each_kind() {
     for kind in [Kind::Ascii, Kind::Binary, Kind::Binary32] {
-        let largest = Layout { analogs: 96, statuses: 256, rows: 1, kind };
+        let largest = Layout { analogs: 96, statuses: 256, rows: 1, ..layout(kind) };
         let row = Row { time: u32::MAX, samples: vec![Sample::Is(-32_767); 96], statuses: vec![true; 256] };
         let bytes = zagalume::write_row(largest, 1, &row).unwrap();
         assert_eq!(bytes.len(), [1 + 11 + 96 * 7 + 256 * 2 + 2, 232, 424][kind.number() as usize]);
@@ -236,4 +305,17 @@ fn kinds_by_number_and_by_word() {
         assert_eq!(Kind::of_word(&kind.to_string()), Some(kind));
     }
     assert_eq!(Kind::of_number(3), None);
+}
+
+#[test]
+fn editions_by_year_and_their_kinds() {
+    for edition in [Edition::Year2013, Edition::Year1999] {
+        assert_eq!(Edition::of_year(edition.year()), Some(edition));
+        assert_eq!(edition.to_string(), edition.year().to_string());
+        assert!(edition.has(Kind::Ascii) && edition.has(Kind::Binary));
+        assert_eq!(edition.has(Kind::Binary32), edition == Edition::Year2013);
+    }
+    for year in [0, 1991, 2000, 2014, u32::MAX] {
+        assert_eq!(Edition::of_year(year), None);
+    }
 }

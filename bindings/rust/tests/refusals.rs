@@ -1,14 +1,14 @@
 //! Every refusal comes back with its number and place, and leaves what was lent as it was.
 
 use std::{collections::BTreeSet, fs, path::Path};
-use zagalume::{refused, Config, Kind, Layout, Refusal, Row, Sample};
+use zagalume::{refused, Config, Edition, Kind, Layout, Refusal, Row, Sample};
 
 fn no(number: u32, at: u32, field: u32) -> Refusal {
     Refusal { number, at, field }
 }
 
 fn layout(analogs: u32, statuses: u32, rows: u32, kind: Kind) -> Layout {
-    Layout { analogs, statuses, rows, kind }
+    Layout { analogs, statuses, rows, kind, edition: Edition::Year2013 }
 }
 
 fn one(kind: Kind) -> Layout {
@@ -92,6 +92,71 @@ fn layouts_outside_the_limits() {
         );
         assert_eq!(zagalume::bytes_needed(bad, &[], Kind::Ascii), Err(refusal));
         assert_eq!(zagalume::change(bad, &[], Kind::Ascii), Err(refusal));
+    }
+}
+
+#[test]
+fn a_kind_that_the_edition_lacks() {
+    let refusal = no(refused::LAYOUT, 0, 0);
+    let lacking = Layout { edition: Edition::Year1999, ..one(Kind::Binary32) };
+    assert_eq!(zagalume::check(lacking, &example("one-binary32.dat")), Err(refusal));
+    assert_eq!(zagalume::row(lacking, &example("one-binary32.dat"), 1), Err(refusal));
+    assert_eq!(zagalume::write_row_into(lacking, 1, &[0, 0, 0], &mut [0; 100]), Err(refusal));
+    assert_eq!(zagalume::bytes_needed(lacking, &[], Kind::Binary), Err(refusal));
+    assert_eq!(zagalume::change(lacking, &[], Kind::Binary), Err(refusal));
+    let older = Layout { edition: Edition::Year1999, ..one(Kind::Ascii) };
+    assert_eq!(zagalume::bytes_needed(older, b"bad", Kind::Binary32), Err(refusal));
+    assert_eq!(zagalume::change_into(older, b"bad", Kind::Binary32, &mut []), Err(refusal));
+    let cfg = example("one-1999.cfg");
+    assert_eq!(zagalume::write_config(&cfg, Kind::Binary32), Err(refusal));
+    assert_eq!(zagalume::write_config_into(&cfg, Kind::Binary32, &mut []), Err(refusal));
+    assert_eq!(zagalume::write_config(&cfg[..cfg.len() - 5], Kind::Binary32), Err(no(refused::EARLY_END, 10, 0)));
+}
+
+#[test]
+fn configurations_of_1999() {
+    let older = String::from_utf8(example("one-1999.cfg")).unwrap();
+    let refused_with = |cfg: &str| zagalume::read_config(cfg.as_bytes()).unwrap_err();
+    let end = older.len();
+    assert_eq!(refused_with(&older[..end - 1]), no(refused::BYTE, 11, 0));
+    assert_eq!(refused_with(&older[..end - 3]), no(refused::EARLY_END, 11, 0));
+    for rest in ["\r\n", "\x1A", "0,0\r\n0,3\r\n"] {
+        assert_eq!(refused_with(&format!("{older}{rest}")), no(refused::BYTES_AFTER, 12, 0));
+    }
+    assert_eq!(refused_with(&format!("{}\x1A", older.trim_end())), no(refused::BYTE, 11, 0));
+    assert_eq!(refused_with(&older.replace("1999", "2013")), no(refused::EARLY_END, 12, 0));
+    for (year, number) in [("1991", refused::YEAR), ("199", refused::FORM), (" 1999", refused::FORM)] {
+        assert_eq!(refused_with(&older.replace("1999", year)), no(number, 1, 3));
+    }
+    for (word, number) in [("BINARY32", refused::VALUE), ("float32", refused::VALUE), ("bin", refused::FORM)] {
+        assert_eq!(refused_with(&older.replace("ASCII", word)), no(number, 10, 1));
+    }
+    assert_eq!(refused_with(&older.replace("ASCII\r\n1", "ASCII\r\n0")), no(refused::VALUE, 11, 1));
+}
+
+#[test]
+fn texts_of_1999() {
+    let older = Layout { edition: Edition::Year1999, ..layout(1, 1, 1, Kind::Ascii) };
+    let check = |sample: &str| zagalume::check(older, format!("1,0,{sample},0\r\n").as_bytes());
+    for sample in ["99998", "-99999", "99999", "0"] {
+        assert_eq!(check(sample), Ok(()));
+    }
+    for sample in ["", " ", "100000", "-100000", "-2147483647"] {
+        assert_eq!(check(sample), Err(no(refused::TEXT_ROW, 1, 3)));
+    }
+    let written = |number| {
+        let row = Row { time: 0, samples: vec![Sample::Is(number)], statuses: vec![false] };
+        zagalume::write_row(older, 1, &row)
+    };
+    for number in [99_998, -99_999] {
+        assert_eq!(written(number), Ok(format!("1,0,{number},0\r\n").into_bytes()));
+    }
+    for number in [99_999, 100_000, -100_000, i32::MIN] {
+        assert_eq!(written(number), Err(no(refused::MISFIT, 1, 3)));
+    }
+    for sample in ["32768", "-32768"] {
+        let changed = zagalume::change(older, format!("1,0,{sample},0\r\n").as_bytes(), Kind::Binary);
+        assert_eq!(changed, Err(no(refused::MISFIT, 1, 3)));
     }
 }
 

@@ -5,7 +5,7 @@ use std::ffi::{OsStr, OsString};
 use std::io::{self, Write};
 use std::process::ExitCode;
 use std::{env, fs};
-use zagalume::{Layout, Refusal, Row};
+use zagalume::{Config, Layout, Refusal, Row};
 
 /// A recording whose data file is not checked yet.
 pub struct Recording {
@@ -70,16 +70,26 @@ fn read(name: &OsStr) -> Result<Vec<u8>, Failure> {
     fs::read(name).map_err(|error| Failure::Trouble(format!("{} can't be read: {error}", name.to_string_lossy())))
 }
 
+/// What a configuration shows.
+fn shown(cfg: &[u8]) -> Result<Config, Failure> {
+    zagalume::read_config(cfg).map_err(Failure::Configuration)
+}
+
+/// Loads a configuration alone.
+pub fn load_config(cfg: &OsStr) -> Result<Config, Failure> {
+    shown(&read(cfg)?)
+}
+
 /// Loads a recording.
 pub fn load(cfg: &OsStr, dat: &OsStr) -> Result<Recording, Failure> {
     let cfg = read(cfg)?;
-    let layout = zagalume::read_config(&cfg).map_err(Failure::Configuration)?.layout();
+    let layout = shown(&cfg)?.layout();
     Ok(Recording { layout, cfg, data: read(dat)? })
 }
 
 /// Prints the first line of a listing.
 pub fn print_layout(out: &mut impl Write, layout: Layout) -> io::Result<()> {
-    let Layout { analogs, statuses, rows, kind } = layout;
+    let Layout { analogs, statuses, rows, kind, .. } = layout;
     writeln!(out, "A {analogs} D {statuses} rows {rows} {kind}")
 }
 

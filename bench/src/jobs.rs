@@ -6,6 +6,9 @@ use bench::Answer;
 
 const KINDS: [&str; 3] = ["ASCII", "binary", "binary32"];
 
+/// The edition of all jobs but the checks that say another.
+const EDITION: u32 = 2013;
+
 /// The kind for which configurations are written: binary, which theirs is too.
 const WRITTEN_KIND: u32 = 1;
 
@@ -21,7 +24,8 @@ pub enum Source {
 pub enum Job {
     Config,
     WriteConfig(Source),
-    Check(u32),
+    /// The kind and the edition.
+    Check(u32, u32),
     Show(u32),
     Write(u32),
     Change(u32, u32),
@@ -31,7 +35,8 @@ impl Job {
     /// Every job, in the order of the tables.
     pub fn all() -> Vec<Job> {
         let mut jobs = vec![Job::Config, Job::WriteConfig(Source::Own), Job::WriteConfig(Source::Longest)];
-        jobs.extend((0..3).map(Job::Check));
+        jobs.extend((0..3).map(|kind| Job::Check(kind, EDITION)));
+        jobs.push(Job::Check(0, 1999));
         jobs.extend((0..3).map(Job::Show));
         jobs.extend((0..3).map(Job::Write));
         jobs.extend((0..9).map(|pair| Job::Change(pair / 3, pair % 3)));
@@ -42,7 +47,7 @@ impl Job {
         match self {
             Job::Config => "config",
             Job::WriteConfig(_) => "write-config",
-            Job::Check(_) => "check",
+            Job::Check(..) => "check",
             Job::Show(_) => "show",
             Job::Write(_) => "write",
             Job::Change(..) => "change",
@@ -53,7 +58,8 @@ impl Job {
         match self {
             Job::Config | Job::WriteConfig(Source::Own) => "text".to_string(),
             Job::WriteConfig(Source::Longest) => "longest text".to_string(),
-            Job::Check(kind) | Job::Show(kind) | Job::Write(kind) => KINDS[kind as usize].to_string(),
+            Job::Check(kind, 1999) => format!("{} of 1999", KINDS[kind as usize]),
+            Job::Check(kind, _) | Job::Show(kind) | Job::Write(kind) => KINDS[kind as usize].to_string(),
             Job::Change(old, new) => format!("{} to {}", KINDS[old as usize], KINDS[new as usize]),
         }
     }
@@ -62,7 +68,7 @@ impl Job {
     pub fn has_text(self) -> bool {
         match self {
             Job::Config | Job::WriteConfig(_) => true,
-            Job::Check(kind) | Job::Show(kind) | Job::Write(kind) => kind == 0,
+            Job::Check(kind, _) | Job::Show(kind) | Job::Write(kind) => kind == 0,
             Job::Change(old, new) => old == 0 || new == 0,
         }
     }
@@ -87,7 +93,7 @@ impl Job {
         match self {
             Job::Config => recording.cfg.len() as u64,
             Job::WriteConfig(source) => source_cfg(recording, source).len() as u64,
-            Job::Check(kind) | Job::Show(kind) | Job::Change(kind, _) => file(kind) * self.walks(recording),
+            Job::Check(kind, _) | Job::Show(kind) | Job::Change(kind, _) => file(kind) * self.walks(recording),
             Job::Write(_) => length,
         }
     }
@@ -121,7 +127,7 @@ impl Buffers {
     pub fn new(recording: &Recording) -> Buffers {
         let places = (1 + recording.a + recording.d) as usize;
         let out = vec![0xEE; recording.most_bytes()];
-        Buffers { out, shown: vec![-1; places.max(34)], rows: recording.kept.clone() }
+        Buffers { out, shown: vec![-1; places.max(35)], rows: recording.kept.clone() }
     }
 
     /// Fills what the programs write, so that a pass that writes nothing is found out.
@@ -142,32 +148,33 @@ impl Buffers {
 
 /// One pass of a job; the length that the answers reported. Every call has to say yes.
 pub fn pass(job: Job, program: &Program, recording: &Recording, buffers: &mut Buffers) -> u64 {
-    let Recording { a, d, rows, ref cfg, ref files, .. } = *recording;
+    let Recording { ref cfg, ref files, .. } = *recording;
     let data = |kind: u32| &files[kind as usize][..];
+    let layout = |kind: u32| recording.layout(kind, EDITION);
     match job {
         Job::Config => accepted((program.config)(cfg, &mut buffers.shown)),
         Job::WriteConfig(source) => {
             accepted((program.write_config)(source_cfg(recording, source), WRITTEN_KIND, &mut buffers.out))
         }
-        Job::Check(kind) => accepted((program.check)(a, d, rows, kind, data(kind))),
+        Job::Check(kind, edition) => accepted((program.check)(recording.layout(kind, edition), data(kind))),
         Job::Show(kind) => {
-            let each = |n| accepted((program.row)(a, d, rows, kind, data(kind), n, &mut buffers.shown));
+            let each = |n| accepted((program.row)(layout(kind), data(kind), n, &mut buffers.shown));
             recording.shown.iter().copied().map(each).sum()
         }
         Job::Write(kind) => write_all(program, recording, kind, buffers),
-        Job::Change(old, new) => accepted((program.change)(a, d, rows, old, data(old), new, &mut buffers.out)),
+        Job::Change(old, new) => accepted((program.change)(layout(old), data(old), new, &mut buffers.out)),
     }
 }
 
 /// Writes every row after the one before it. A row kept serves for many numbers; its time is set to the number's.
 fn write_all(program: &Program, recording: &Recording, kind: u32, buffers: &mut Buffers) -> u64 {
-    let Recording { a, d, rows, .. } = *recording;
+    let layout = recording.layout(kind, EDITION);
     let Buffers { out, rows: kept, .. } = buffers;
     let (mut at, mut next) = (0, 0);
-    for n in 1..=rows {
+    for n in 1..=layout.rows {
         let row = &mut kept[next][..];
         row[0] = time(n);
-        at += accepted((program.write_row)(a, d, rows, kind, n, row, &mut out[at as usize..]));
+        at += accepted((program.write_row)(layout, n, row, &mut out[at as usize..]));
         next = if next + 1 < kept.len() { next + 1 } else { 0 };
     }
     at

@@ -5,6 +5,7 @@ pub mod library;
 pub mod tuned;
 
 pub use filled::filled_up;
+pub use second::LayoutNumbers;
 pub use zagalume_raw::Answer;
 
 /// An answer of the second program, in the form that the library gives it.

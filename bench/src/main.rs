@@ -101,6 +101,7 @@ fn run(choice: &Choice) -> Vec<Figure> {
 const NOTES: &str = "\
 - MB is 1,000,000 bytes: of the configuration for config and write-config; of the file for check and change; of the file
   for each row shown, since every call checks the whole file; written for write
+- check of ASCII of 1999: the text file of 2013, which is one of 1999 too
 - write-config: to binary, which the configuration's own kind is; of the largest layout also one of 65,536 bytes, with
   long names and a space before each real
 - the programs take turns, round after round; the best round of each counts; a pass of over 8 seconds is taken once

@@ -1,17 +1,17 @@
 //! The three programs behind one set of calls, each reached through pointers, so that none is built into the loop
 //! around it.
 
-use bench::{library, of_second, tuned, Answer};
+use bench::{library, of_second, tuned, Answer, LayoutNumbers};
 
 /// The calls that are measured.
 pub struct Program {
     pub name: &'static str,
     pub config: fn(&[u8], &mut [i64]) -> Answer,
     pub write_config: fn(&[u8], u32, &mut [u8]) -> Answer,
-    pub check: fn(u32, u32, u32, u32, &[u8]) -> Answer,
-    pub row: fn(u32, u32, u32, u32, &[u8], u32, &mut [i64]) -> Answer,
-    pub write_row: fn(u32, u32, u32, u32, u32, &[i64], &mut [u8]) -> Answer,
-    pub change: fn(u32, u32, u32, u32, &[u8], u32, &mut [u8]) -> Answer,
+    pub check: fn(LayoutNumbers, &[u8]) -> Answer,
+    pub row: fn(LayoutNumbers, &[u8], u32, &mut [i64]) -> Answer,
+    pub write_row: fn(LayoutNumbers, u32, &[i64], &mut [u8]) -> Answer,
+    pub change: fn(LayoutNumbers, &[u8], u32, &mut [u8]) -> Answer,
 }
 
 /// How many programs there are.
@@ -36,10 +36,10 @@ pub const PROGRAMS: [Program; COUNT] = [
         name: "second",
         config: |cfg, shown| of_second(second::config(cfg, shown)),
         write_config: |cfg, kind, out| of_second(second::write_config(cfg, kind, out)),
-        check: |a, d, rows, kind, data| of_second(second::check(a, d, rows, kind, data)),
-        row: |a, d, rows, kind, data, n, shown| of_second(second::row(a, d, rows, kind, data, n, shown)),
-        write_row: |a, d, rows, kind, n, row, out| of_second(second::write_row(a, d, rows, kind, n, row, out)),
-        change: |a, d, rows, kind, data, new, out| of_second(second::change(a, d, rows, kind, data, new, out)),
+        check: |layout, data| of_second(second::check(layout, data)),
+        row: |layout, data, n, shown| of_second(second::row(layout, data, n, shown)),
+        write_row: |layout, n, row, out| of_second(second::write_row(layout, n, row, out)),
+        change: |layout, data, new, out| of_second(second::change(layout, data, new, out)),
     },
     Program {
         name: "tuned",

@@ -1,6 +1,6 @@
 //! The recordings that are measured: the same ones in every run.
 
-use bench::{filled_up, tuned, Answer};
+use bench::{filled_up, tuned, Answer, LayoutNumbers};
 use dice::Dice;
 
 /// Rows kept in memory as a source for writing.
@@ -56,6 +56,11 @@ impl Recording {
         most_bytes(self.a, self.d, self.rows).into_iter().fold(MOST_CFG_BYTES, |most, bytes| most.max(bytes as usize))
     }
 
+    /// The layout of its file of a kind, by the rules of an edition.
+    pub fn layout(&self, kind: u32, edition: u32) -> LayoutNumbers {
+        LayoutNumbers { a: self.a, d: self.d, rows: self.rows, kind, edition }
+    }
+
     /// Makes a recording, of fewer rows where `memory` bytes do not hold it. All rows are to be shown where there are
     /// at most `most_shown`; else the first, the middle and the last.
     pub fn new(a: u32, d: u32, wanted_rows: u32, memory: u64, most_shown: u32) -> Recording {
@@ -69,7 +74,8 @@ impl Recording {
         for n in 1..=rows {
             fill_row(&mut dice, n, a as usize, &mut row);
             for (kind, (file, end)) in (0..).zip(files.iter_mut().zip(&mut ends)) {
-                *end += written(tuned::write_row(a, d, rows, kind, n, &row, &mut file[*end..]));
+                let layout = LayoutNumbers { a, d, rows, kind, edition: 2013 };
+                *end += written(tuned::write_row(layout, n, &row, &mut file[*end..]));
             }
             if n <= KEPT_ROWS {
                 kept.push(row.clone());
@@ -86,12 +92,12 @@ impl Recording {
     }
 }
 
-/// Samples of 16 bits in sizes that vary, statuses of any bit.
+/// Samples of 16 bits in sizes that vary, none of them the lowest pattern, which is a missing one; statuses of any bit.
 fn fill_row(dice: &mut Dice, n: u32, a: usize, row: &mut [i64]) {
     row[0] = time(n);
     for place in &mut row[1..1 + a] {
         let word = dice.word();
-        *place = i64::from((word as i16) >> (word >> 16 & 7));
+        *place = i64::from((word as i16).max(-32_767) >> (word >> 16 & 7));
     }
     for place in &mut row[1 + a..] {
         *place = dice.below(2) as i64;

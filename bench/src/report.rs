@@ -10,9 +10,9 @@ const TEXT_CHECK_TARGET: f64 = 450.0;
 /// Least ratio of the library to the tuned program.
 fn target(figure: &Figure) -> f64 {
     match figure.job {
-        Job::Check(0) => 0.85,
-        Job::Check(_) if (figure.a, figure.d) == (1, 1) => 0.85,
-        Job::Check(_) => 0.9,
+        Job::Check(0, _) => 0.85,
+        Job::Check(..) if (figure.a, figure.d) == (1, 1) => 0.85,
+        Job::Check(..) => 0.9,
         Job::Change(old, new) if old != 0 && new != 0 => 0.9,
         job if job.has_text() => 0.8,
         _ => 1.0,
@@ -126,7 +126,7 @@ pub fn shortfalls(figures: &[Figure]) -> String {
             text.push_str(&format!("- {place}: library / tuned {ratio:.2}, wanted {target:.2}\n"));
         }
         let speed = figure.speed(LIBRARY);
-        if figure.job == Job::Check(0) && speed < TEXT_CHECK_TARGET {
+        if matches!(figure.job, Job::Check(0, _)) && speed < TEXT_CHECK_TARGET {
             text.push_str(&format!("- {place}: {} MB/s, wanted {TEXT_CHECK_TARGET:.0}\n", short(speed)));
         }
     }

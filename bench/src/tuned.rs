@@ -14,7 +14,7 @@ pub use change::{change, length};
 pub use config::config;
 pub use write_config::write_config;
 
-use crate::Answer;
+use crate::{Answer, LayoutNumbers};
 
 /// A "no" with its place. A refusal ends the job, so the compiler may keep it out of the way.
 #[cold]
@@ -41,26 +41,38 @@ enum Kind {
     Binary32,
 }
 
-/// A layout within the sizes.
+/// A layout within the sizes, of a kind that its edition has. The editions differ in their text alone: that of 1999 is
+/// marked, which means that the number 99999 is a missing sample in it.
 #[derive(Debug, Clone, Copy)]
 struct Layout {
     a: usize,
     d: usize,
     rows: u32,
     kind: Kind,
+    marked: bool,
 }
 
 impl Layout {
-    /// A layout out of the sizes, or no such kind, is 10.
-    fn new(a: u32, d: u32, rows: u32, kind: u32) -> Result<Layout, Answer> {
+    /// A layout out of the sizes, no such kind or edition, or a kind that the edition lacks, is 10.
+    fn new(numbers: LayoutNumbers) -> Result<Layout, Answer> {
+        let LayoutNumbers { a, d, rows, kind, edition } = numbers;
         let sized = a <= 96 && d <= 256 && a + d >= 1 && (1..=1_000_000).contains(&rows);
-        let kind = match kind {
-            0 if sized => Kind::Text,
-            1 if sized => Kind::Binary,
-            2 if sized => Kind::Binary32,
+        let kind = match (kind, edition) {
+            (0, 2013 | 1999) if sized => Kind::Text,
+            (1, 2013 | 1999) if sized => Kind::Binary,
+            (2, 2013) if sized => Kind::Binary32,
             _ => return Err(no(10, 0, 0)),
         };
-        Ok(Layout { a: a as usize, d: d as usize, rows, kind })
+        let marked = kind == Kind::Text && edition == 1999;
+        Ok(Layout { a: a as usize, d: d as usize, rows, kind, marked })
+    }
+
+    /// What a text has for a missing sample.
+    fn missing_text(&self) -> &'static [u8] {
+        if self.marked {
+            return b"99999";
+        }
+        b""
     }
 
     /// Places of a row in memory: time, samples, statuses.
@@ -78,8 +90,8 @@ impl Layout {
 }
 
 /// Checks a data file: 10, then the file.
-pub fn check(a: u32, d: u32, rows: u32, kind: u32, data: &[u8]) -> Answer {
-    answer(Layout::new(a, d, rows, kind).and_then(|layout| check_file(&layout, data)))
+pub fn check(layout: LayoutNumbers, data: &[u8]) -> Answer {
+    answer(Layout::new(layout).and_then(|layout| check_file(&layout, data)))
 }
 
 fn check_file(layout: &Layout, data: &[u8]) -> Result<usize, Answer> {
@@ -91,48 +103,49 @@ fn check_file(layout: &Layout, data: &[u8]) -> Result<usize, Answer> {
 }
 
 /// Shows row n: 10, 15, the whole file, 17.
-pub fn row(a: u32, d: u32, rows: u32, kind: u32, data: &[u8], n: u32, shown: &mut [i64]) -> Answer {
-    answer(show_row(a, d, rows, kind, data, n, shown))
+pub fn row(layout: LayoutNumbers, data: &[u8], n: u32, shown: &mut [i64]) -> Answer {
+    answer(Layout::new(layout).and_then(|layout| show_row(&layout, data, n, shown)))
 }
 
-fn show_row(a: u32, d: u32, rows: u32, kind: u32, data: &[u8], n: u32, shown: &mut [i64]) -> Result<usize, Answer> {
-    let layout = Layout::new(a, d, rows, kind)?;
+fn show_row(layout: &Layout, data: &[u8], n: u32, shown: &mut [i64]) -> Result<usize, Answer> {
     layout.has_row(n)?;
     let start = match layout.kind {
-        Kind::Text => text::find(&layout, data, n)?,
-        Kind::Binary => binary::find::<2>(&layout, data, n)?,
-        Kind::Binary32 => binary::find::<4>(&layout, data, n)?,
+        Kind::Text => text::find(layout, data, n)?,
+        Kind::Binary => binary::find::<2>(layout, data, n)?,
+        Kind::Binary32 => binary::find::<4>(layout, data, n)?,
     };
     let Some(shown) = shown.get_mut(..layout.places()) else { return Err(no(17, 0, 0)) };
     match layout.kind {
-        Kind::Text => text::show(&layout, data, start, n, shown),
-        Kind::Binary => binary::show::<2>(&layout, &data[start..], shown),
-        Kind::Binary32 => binary::show::<4>(&layout, &data[start..], shown),
+        Kind::Text => text::show(layout, data, start, n, shown),
+        Kind::Binary => binary::show::<2>(layout, &data[start..], shown),
+        Kind::Binary32 => binary::show::<4>(layout, &data[start..], shown),
     }
     Ok(0)
 }
 
 /// Writes row n: 10, 15, 16, 17; no end mark is added.
-pub fn write_row(a: u32, d: u32, rows: u32, kind: u32, n: u32, row: &[i64], out: &mut [u8]) -> Answer {
-    answer(put_row(a, d, rows, kind, n, row, out))
+pub fn write_row(layout: LayoutNumbers, n: u32, row: &[i64], out: &mut [u8]) -> Answer {
+    answer(Layout::new(layout).and_then(|layout| put_row(&layout, n, row, out)))
 }
 
-fn put_row(a: u32, d: u32, rows: u32, kind: u32, n: u32, row: &[i64], out: &mut [u8]) -> Result<usize, Answer> {
-    let layout = Layout::new(a, d, rows, kind)?;
+fn put_row(layout: &Layout, n: u32, row: &[i64], out: &mut [u8]) -> Result<usize, Answer> {
     let Some(row) = row.get(..layout.places()) else { return Err(no(10, 0, 0)) };
     layout.has_row(n)?;
     match layout.kind {
-        Kind::Text => plain::put_row(&layout, n, row, out),
-        Kind::Binary => binary::put_row::<2>(&layout, n, row, out),
-        Kind::Binary32 => binary::put_row::<4>(&layout, n, row, out),
+        Kind::Text => plain::put_row(layout, n, row, out),
+        Kind::Binary => binary::put_row::<2>(layout, n, row, out),
+        Kind::Binary32 => binary::put_row::<4>(layout, n, row, out),
     }
 }
 
 /// A missing sample while it is read or written: the lowest number of 32 bits, which no sample is.
 const MISSING: i32 = i32::MIN;
 
-/// A missing sample in a row that is shown or given.
+/// A missing sample in a row that is shown or given, and in a configuration a line that its edition lacks.
 const NONE: i64 = i64::MIN;
+
+/// How far from zero a sample of a marked text may lie; above zero that number is the mark.
+const MARK: i64 = 99_999;
 
 /// The place that shows a sample.
 #[inline(always)]
@@ -156,20 +169,48 @@ fn given(place: i64) -> i32 {
 fn fits(layout: &Layout, n: u32, row: &[i64], bits: u32) -> Result<bool, Answer> {
     let (samples, statuses) = row[1..].split_at(layout.a);
     let outside = |distance: u64| distance << 1 >> bits;
-    let time = row[0] as u64 >> 32;
     let distances = samples.iter().fold(0, |all, sample| all | sample.unsigned_abs());
-    let status = statuses.iter().fold(0, |bad, &status| bad | status as u64 >> 1);
-    if time | outside(distances) | status == 0 {
+    if wide_time(row) | outside(distances) | not_statuses(statuses) == 0 {
         return Ok(distances >> 63 != 0);
     }
-    let place = if time != 0 {
+    Err(misfit(layout, n, row, |sample| outside(sample.unsigned_abs()) != 0))
+}
+
+/// The same of a marked text, whose samples lie from -99,999 to 99,998 or are missing.
+fn fits_marked(layout: &Layout, n: u32, row: &[i64]) -> Result<(), Answer> {
+    let (samples, statuses) = row[1..].split_at(layout.a);
+    let outside = |sample: i64| sample != NONE && !(-MARK..MARK).contains(&sample);
+    let misfits = samples.iter().fold(false, |any, &sample| any | outside(sample));
+    if wide_time(row) | u64::from(misfits) | not_statuses(statuses) == 0 {
+        return Ok(());
+    }
+    Err(misfit(layout, n, row, outside))
+}
+
+/// Not zero where the time of a row has more than 32 bits.
+#[inline(always)]
+fn wide_time(row: &[i64]) -> u64 {
+    row[0] as u64 >> 32
+}
+
+/// Not zero where one of them is neither 0 nor 1.
+#[inline(always)]
+fn not_statuses(statuses: &[i64]) -> u64 {
+    statuses.iter().fold(0, |bad, &status| bad | status as u64 >> 1)
+}
+
+/// The refusal of a row of which a place does not fit.
+#[cold]
+fn misfit(layout: &Layout, n: u32, row: &[i64], outside: impl Fn(i64) -> bool) -> Answer {
+    let (samples, statuses) = row[1..].split_at(layout.a);
+    let place = if wide_time(row) != 0 {
         0
-    } else if let Some(place) = samples.iter().position(|sample| outside(sample.unsigned_abs()) != 0) {
+    } else if let Some(place) = samples.iter().position(|&sample| outside(sample)) {
         1 + place
     } else {
         1 + layout.a + statuses.iter().position(|&status| status as u64 > 1).unwrap_or(0)
     };
-    Err(no(16, n, place as u32 + 2))
+    no(16, n, place as u32 + 2)
 }
 
 /// Up to sixteen statuses as a word, bit 0 first. Sixteen are shifted each by itself, which the compiler does at once.

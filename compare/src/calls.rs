@@ -5,8 +5,7 @@ use crate::walk::Walk;
 
 /// Bytes that a change needs; where it is refused, some few.
 pub fn needed(layout: Layout, file: &[u8], new_kind: u32) -> usize {
-    let l = layout;
-    match second::length(l.a, l.d, l.rows, l.kind, file, new_kind) {
+    match second::length(layout.numbers(), file, new_kind) {
         answer if answer.number == 0 => answer.length as usize,
         _ => 16,
     }
@@ -27,13 +26,14 @@ pub fn four_calls(walk: &mut Walk, layout: Layout, turn: usize, file: &dyn Fn() 
     walk.case(|| change(layout, file(), turn / 3 % 3, turn as usize % 2));
 }
 
-/// The check, the first row and the last, and for each kind the length and the change.
+/// The check, the first row and the last, and for each kind that the edition has the length and the change.
 pub fn every_call(walk: &mut Walk, layout: Layout, file: &dyn Fn() -> Vec<u8>) {
     walk.case(|| Case::Check { layout, file: file() });
     for n in [1, layout.rows] {
         walk.case(|| Case::Row { layout, file: file(), n, places: layout.places() });
     }
-    for new_kind in 0..3 {
+    let kinds = if layout.edition == 1999 { 2 } else { 3 };
+    for new_kind in 0..kinds {
         length_and_change(walk, layout, new_kind, file);
     }
 }

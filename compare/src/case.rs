@@ -1,7 +1,11 @@
 //! A case: one call with its arguments, and how it is spelled on a line.
 
 use crate::words::{listed, spelled, Words};
+use second::LayoutNumbers;
 use std::fmt::{self, Display, Formatter};
+
+/// The places in which a configuration is shown.
+pub const CONFIG_PLACES: usize = 35;
 
 /// A layout as it is given to a call, out of the sizes too.
 #[derive(Debug, Clone, Copy, PartialEq, Eq)]
@@ -10,16 +14,34 @@ pub struct Layout {
     pub d: u32,
     pub rows: u32,
     pub kind: u32,
+    pub edition: u32,
 }
 
 impl Layout {
+    /// A layout of the 2013 edition.
     pub const fn new(a: u32, d: u32, rows: u32, kind: u32) -> Layout {
-        Layout { a, d, rows, kind }
+        Layout { a, d, rows, kind, edition: 2013 }
+    }
+
+    /// A layout of a kind with its edition.
+    pub const fn of(a: u32, d: u32, rows: u32, (kind, edition): (u32, u32)) -> Layout {
+        Layout { a, d, rows, kind, edition }
+    }
+
+    /// The same of another edition.
+    pub const fn of_edition(self, edition: u32) -> Layout {
+        Layout { edition, ..self }
     }
 
     /// The same of another kind.
     pub fn of_kind(self, kind: u32) -> Layout {
         Layout { kind, ..self }
+    }
+
+    /// The numbers as the second program takes them.
+    pub fn numbers(self) -> LayoutNumbers {
+        let Layout { a, d, rows, kind, edition } = self;
+        LayoutNumbers { a, d, rows, kind, edition }
     }
 
     /// Places of a row: time, A samples, D statuses; of a layout out of the sizes, some few.
@@ -71,6 +93,34 @@ impl Case {
         }
     }
 
+    /// The layout, where the call takes one.
+    pub fn layout(&self) -> Option<Layout> {
+        match self {
+            Case::Check { layout, .. } | Case::Row { layout, .. } | Case::WriteRow { layout, .. } => Some(*layout),
+            Case::Length { layout, .. } | Case::Change { layout, .. } => Some(*layout),
+            Case::Config { .. } | Case::WriteConfig { .. } | Case::Reason { .. } => None,
+        }
+    }
+
+    /// The kind that something is written for, where the call takes one beside a layout or a configuration.
+    pub fn new_kind(&self) -> Option<u32> {
+        match self {
+            Case::WriteConfig { kind, .. } => Some(*kind),
+            Case::Length { new_kind, .. } | Case::Change { new_kind, .. } => Some(*new_kind),
+            _ => None,
+        }
+    }
+
+    /// Whether the case is about a recording of 1999: its layout says so, or the first line of its configuration.
+    pub fn is_of_1999(&self) -> bool {
+        match self {
+            Case::Config { cfg, .. } | Case::WriteConfig { cfg, .. } => {
+                cfg.split(|&byte| byte == b'\r').next().is_some_and(|line| line.ends_with(b",1999"))
+            }
+            _ => self.layout().is_some_and(|layout| layout.edition == 1999),
+        }
+    }
+
     /// Bytes of the buffer lent for the answer.
     pub fn room(&self) -> usize {
         match self {
@@ -84,7 +134,7 @@ impl Case {
     /// Bytes of that buffer that a "yes" of this length reports, and so changes.
     pub fn reported(&self, length: u32) -> usize {
         match self {
-            Case::Config { .. } => 8 * 34,
+            Case::Config { .. } => 8 * CONFIG_PLACES,
             Case::Row { layout, .. } => 8 * layout.places(),
             Case::Check { .. } | Case::Length { .. } => 0,
             Case::WriteConfig { .. } | Case::WriteRow { .. } => length as usize,
@@ -95,11 +145,11 @@ impl Case {
 
 impl Display for Layout {
     fn fmt(&self, f: &mut Formatter) -> fmt::Result {
-        write!(f, "{} {} {} {}", self.a, self.d, self.rows, self.kind)
+        write!(f, "{} {} {} {} {}", self.a, self.d, self.rows, self.kind, self.edition)
     }
 }
 
-/// A case as a line of kept/ has it: its numbers stand before its bytes, a layout as A, D, rows and kind.
+/// A case as a line of kept/ has it: its numbers stand before its bytes, a layout as A, D, rows, kind and edition.
 impl Display for Case {
     fn fmt(&self, f: &mut Formatter) -> fmt::Result {
         write!(f, "{} ", CALLS[self.call()])?;
@@ -118,7 +168,8 @@ impl Display for Case {
 
 /// The layout that a line gives.
 pub fn parse_layout(w: &mut Words) -> Option<Layout> {
-    Some(Layout { a: w.number()?, d: w.number()?, rows: w.number()?, kind: w.number()? })
+    let [a, d, rows, kind, edition] = [w.number()?, w.number()?, w.number()?, w.number()?, w.number()?];
+    Some(Layout { a, d, rows, kind, edition })
 }
 
 /// The case that a line spells, up to what follows its bytes or its row; nothing if it is misspelled.

@@ -1,20 +1,19 @@
 //! Systematic cases of the configuration: each rule, each field, each boundary, each place where the file can end.
 
-use crate::case::Case;
+use crate::case::{Case, CONFIG_PLACES};
 use crate::damage::{at_places, spliced, Damage, BYTES};
-use crate::draft::{Draft, FILLED, LEAST, RECORDING};
+use crate::draft::{drafts, Draft, RECORDING};
 use crate::rules::{cased, Rule, LIMITS};
 use crate::walk::Walk;
 
 /// A configuration with room for all that is shown.
 pub fn config(cfg: Vec<u8>) -> Case {
-    Case::Config { cfg, places: 34 }
+    Case::Config { cfg, places: CONFIG_PLACES }
 }
 
 /// All cases, in an order that stays.
 pub fn walk(walk: &mut Walk) {
-    let drafts = [RECORDING, FILLED, LEAST].map(Draft::of);
-    for draft in &drafts {
+    for draft in &drafts() {
         let cfg = draft.bytes();
         at_places(walk, &cfg, 0..=cfg.len(), &Damage::every(), config);
         every_field(walk, draft);
@@ -23,14 +22,16 @@ pub fn walk(walk: &mut Walk) {
         rooms(walk, &cfg);
         endings(walk, draft);
         pairs_of_fields(walk, draft);
+        last_lines(walk, draft);
     }
-    let draft = &drafts[0];
+    let draft = &Draft::of(RECORDING);
     totals(walk, draft);
     days(walk, draft);
     times(walk, draft);
     moments(walk, draft);
     limits(walk, draft);
     kinds(walk, draft);
+    kinds(walk, &draft.of_1999());
     codes(walk, draft);
     channels(walk);
     rates(walk);
@@ -98,7 +99,7 @@ fn lines_moved(walk: &mut Walk, draft: &Draft) {
 
 /// Too few places, enough and more, for a file that is accepted and for some that are not.
 fn rooms(walk: &mut Walk, cfg: &[u8]) {
-    for places in [0, 1, 2, 33, 34, 35, 36, 64] {
+    for places in [0, 1, 2, 33, 34, 35, 36, 37, 64] {
         for length in [0, 1, cfg.len() / 2, cfg.len() - 3, cfg.len() - 2, cfg.len() - 1, cfg.len()] {
             walk.case(|| Case::Config { cfg: cfg[..length].to_vec(), places });
         }
@@ -109,18 +110,30 @@ fn rooms(walk: &mut Walk, cfg: &[u8]) {
 /// What may follow the last line's fields, and what may not; with its fields good and bad.
 fn endings(walk: &mut Walk, draft: &Draft) {
     let pieces: [&[u8]; 7] = [b"", b"\r", b"\n", b"\r\n", b"\x1a", b" ", b"0"];
-    let last = draft.lines.len() - 1;
-    for leap in ["3", "4", "", "33"] {
+    let line = draft.lines.len() - 1;
+    let field = draft.lines[line].len() - 1;
+    let [form, value] = draft.lines[line][field].rule.refused();
+    for last in ["1", value, form, "33"] {
         for first in pieces {
             for second in pieces {
                 for third in pieces {
                     walk.case(|| {
-                        let bytes = draft.with(last, 1, leap.as_bytes()).bytes();
+                        let bytes = draft.with(line, field, last.as_bytes()).bytes();
                         config([&bytes[..bytes.len() - 2], first, second, third].concat())
                     });
                 }
             }
         }
+    }
+}
+
+/// A configuration of 1999 with what follows it in 2013, up to every byte of that.
+fn last_lines(walk: &mut Walk, draft: &Draft) {
+    let of_1999 = draft.of_1999();
+    let cfg = of_1999.bytes();
+    let more = Draft { lines: draft.lines[of_1999.lines.len()..].to_vec() }.bytes();
+    for length in 1..=more.len() {
+        walk.case(|| config([&cfg, &more[..length]].concat()));
     }
 }
 
@@ -319,15 +332,18 @@ fn rates(walk: &mut Walk) {
     }
 }
 
-/// Files about the most bytes: accepted ones, and others filled with one byte.
+/// Files about the most bytes: accepted ones of either edition, and others filled with one byte.
 fn sizes(walk: &mut Walk) {
     for size in [65_534, 65_535, 65_536, 65_537, 65_538, 80_000] {
         for cut in 0..=4 {
-            walk.case(|| {
-                let mut cfg = Draft::plain(96, 256, &[2]).filled_up(size);
-                cfg.truncate(size - cut);
-                config(cfg)
-            });
+            let plain = Draft::plain(96, 256, &[2]);
+            for draft in [&plain, &plain.of_1999()] {
+                walk.case(|| {
+                    let mut cfg = draft.clone().filled_up(size);
+                    cfg.truncate(size - cut);
+                    config(cfg)
+                });
+            }
         }
         for byte in [0, 13, 26, b' ', b','] {
             walk.case(|| config(vec![byte; size]));

@@ -3,19 +3,21 @@
 use crate::calls::{change, four_calls, needed};
 use crate::case::{Case, Layout};
 use crate::damage::{spliced, Damage};
-use crate::files::{plain_file, row_bytes, text, widest_line, Recording, BEYOND, MARK, SAMPLES};
+use crate::files::{plain_file, row_bytes, text, widest_line, Recording, BEYOND, EDITION_KINDS, MARK, SAMPLES};
 use crate::walk::Walk;
 use std::ops::RangeInclusive;
 
 /// Spellings of a text row's number, time, samples and statuses.
 #[rustfmt::skip]
-pub const FIELDS: [&str; 76] = [
+pub const FIELDS: [&str; 90] = [
     "", " ", "0", "1", "2", "3", "-0", "+0", "-1", "+1", "- 1", "+ 1", "-", "+", "--1", "+-1", " 1", "1 ", "01", " 01", "0 1",
     "1.0", "1E0", "x", "0x1", "/", ":", "/1", "1:", "0000000001", "         1", "00000000001", "          1", "00000000002",
     "0000000000001", "            1", "00000000000001", "             1", "-000000000001", "+000000000001", "-0000000000001",
     "           -1", "            -1", "32767", "32768", "-32767", "-32768", "-32769", "2147483647", "2147483648",
     "-2147483647", "-2147483648", "-2147483649", "-002147483647", "-002147483648", "             ", "              ", "+2147483647", "+2147483648", "4294967295", "4294967296", "004294967295", "9999999999", "9999999999999",
     "-999999999999", "99999999999999", "4294967297", "4294967298", "-4294967295", "10", "11", "21", "00", "11 ", "true", "\"1\"",
+    "99998", "99999", "+99999", "  99999", "0000000099999", "+000000099999", "        99999", "00000000099999", "-99999", "100000",
+    "-100000", "-000000099999", "99999 ", "99999.0",
 ];
 
 /// What may follow the last row of a text, and what may not.
@@ -32,6 +34,9 @@ const SMALL: [(u32, u32, u32); 4] = [(1, 1, 2), (2, 17, 2), (0, 16, 2), (3, 0, 1
 /// Rows of text with spaces, zeros and signs, at the edges of their ranges: A = 2, D = 1.
 const SPELLED: &[u8] = b" 01,  0007,-0,+5,1\r\n0000000002,4294967295,-2147483647,0000000000012,0\r\n";
 
+/// The same of 1999.
+const SPELLED_IN_1999: &[u8] = b" 01,  0007,-0,+99999,1\r\n0000000002,4294967295,-99999,0000000099998,0\r\n";
+
 /// Layouts on both sides of words of statuses, of few and many channels and rows.
 #[rustfmt::skip]
 const LAYOUTS: [(u32, u32, u32); 18] = [
@@ -43,6 +48,9 @@ const LAYOUTS: [(u32, u32, u32); 18] = [
 /// The numbers that are kinds, and some that are none.
 const KINDS: [u32; 5] = [0, 1, 2, 3, u32::MAX];
 
+/// Numbers that are editions, and some that are none.
+pub const EDITIONS: [u32; 10] = [2013, 1999, 0, 1, 1991, 1998, 2000, 2014, 1999 + (1 << 16), u32::MAX];
+
 /// All cases, in an order that stays.
 pub fn walk(walk: &mut Walk) {
     sizes(walk);
@@ -52,27 +60,36 @@ pub fn walk(walk: &mut Walk) {
             damaged(walk, layout, &Recording::plain(layout).bytes());
         }
         for (a, d, rows) in LAYOUTS {
-            let recording = Recording::plain(Layout::new(a, d, rows, kind));
+            cuts(walk, &Recording::plain(Layout::new(a, d, rows, kind)));
+        }
+    }
+    for kind in EDITION_KINDS {
+        for (a, d, rows) in LAYOUTS {
+            let recording = Recording::plain(Layout::of(a, d, rows, kind));
             other_layouts(walk, &recording);
             rooms(walk, &recording);
-            cuts(walk, &recording);
             samples_to_change(walk, &recording);
             two_samples_to_change(walk, &recording);
             rows_to_write(walk, recording.layout);
             rooms_to_write(walk, &recording);
         }
-        pairs(walk, kind);
-        order_of_writing(walk, kind);
-        numbers_to_write(walk, kind);
-        most_rows(walk, kind);
+        pairs(walk, Layout::of(2, 3, 2, kind));
+        order_of_writing(walk, Layout::of(2, 2, 3, kind));
+        numbers_to_write(walk, Layout::of(1, 1, 1_000_000, kind));
+        most_rows(walk, Layout::of(0, 1, 1_000_000, kind));
     }
     for ending in [&b""[..], b"\x1a"] {
         damaged(walk, Layout::new(2, 1, 2, 0), &[SPELLED, ending].concat());
+        damaged(walk, Layout::of(2, 1, 2, (0, 1999)), &[SPELLED_IN_1999, ending].concat());
     }
-    text_fields(walk);
+    damaged(walk, Layout::of(1, 1, 2, (1, 1999)), &Recording::plain(Layout::new(1, 1, 2, 1)).bytes());
+    for edition in [2013, 1999] {
+        text_fields(walk, edition);
+        widest_rows(walk, edition);
+    }
     endings(walk);
     long_rows(walk);
-    widest_rows(walk);
+    editions(walk);
     reasons(walk);
 }
 
@@ -127,18 +144,21 @@ pub fn damaged_at(walk: &mut Walk, layout: Layout, file: &[u8], places: RangeInc
 
 /// A good file taken for one of another layout.
 fn other_layouts(walk: &mut Walk, recording: &Recording) {
-    let Layout { a, d, rows, kind } = recording.layout;
+    let layout = recording.layout;
     let file = recording.bytes();
     let near = |number: u32| [number.wrapping_sub(1), number, number + 1];
-    for a in near(a) {
-        for d in near(d) {
-            for rows in near(rows) {
-                four_calls(walk, Layout::new(a, d, rows, kind), rows as usize, &|| file.clone());
+    for a in near(layout.a) {
+        for d in near(layout.d) {
+            for rows in near(layout.rows) {
+                four_calls(walk, Layout { a, d, rows, ..layout }, rows as usize, &|| file.clone());
             }
         }
     }
     for kind in 0..3 {
-        four_calls(walk, Layout::new(a, d, rows, kind), 0, &|| file.clone());
+        four_calls(walk, layout.of_kind(kind), 0, &|| file.clone());
+    }
+    for (turn, edition) in EDITIONS.into_iter().enumerate() {
+        four_calls(walk, layout.of_edition(edition), turn, &|| file.clone());
     }
 }
 
@@ -255,8 +275,7 @@ fn rooms_to_write(walk: &mut Walk, recording: &Recording) {
 }
 
 /// Layout, row, sample, room: refused in this order, whichever else is wrong.
-fn order_of_writing(walk: &mut Walk, kind: u32) {
-    let layout = Layout::new(2, 2, 3, kind);
+fn order_of_writing(walk: &mut Walk, layout: Layout) {
     for n in [0, 1, 3, 4, u32::MAX] {
         for places in 0..=7usize {
             for numbers in [
@@ -279,8 +298,7 @@ fn order_of_writing(walk: &mut Walk, kind: u32) {
 }
 
 /// Row numbers and times where a decimal gets a digit more.
-fn numbers_to_write(walk: &mut Walk, kind: u32) {
-    let layout = Layout::new(1, 1, 1_000_000, kind);
+fn numbers_to_write(walk: &mut Walk, layout: Layout) {
     for power in 0..=6 {
         for n in [10u32.pow(power) - 1, 10u32.pow(power), 10u32.pow(power) + 1] {
             for more in [0, 1, 2] {
@@ -301,10 +319,11 @@ fn numbers_to_write(walk: &mut Walk, kind: u32) {
 }
 
 /// Damages that each break one rule of a file of two rows, A = 2, D = 3: the kind's own number for it stands beside.
-fn breaks(kind: u32, file: &[u8]) -> Vec<Vec<u8>> {
+fn breaks(recording: &Recording) -> Vec<Vec<u8>> {
+    let file = &recording.bytes()[..];
     let mut list = vec![file.to_vec(), Vec::new(), file[..file.len() - 1].to_vec(), [file, b"x"].concat()];
     let row = file.len() / 2;
-    if kind > 0 {
+    if recording.layout.kind > 0 {
         for place in [0, 3, 4, 8, row - 3, row - 2, row - 1] {
             for start in [0, row] {
                 list.push(spliced(file, start + place, 1, &[0x80 ^ file[start + place]]));
@@ -312,11 +331,11 @@ fn breaks(kind: u32, file: &[u8]) -> Vec<Vec<u8>> {
         }
         return list;
     }
-    let lines = Recording::plain(Layout::new(2, 3, 2, 0)).lines();
+    let lines = recording.lines();
+    let bad =
+        [(0, "9"), (0, "x"), (1, "-1"), (2, "40000"), (2, "400000"), (3, "1x"), (3, ""), (4, "2"), (6, ""), (6, "0,0")];
     for line in 0..2 {
-        for (field, bad) in
-            [(0, "9"), (0, "x"), (1, "-1"), (2, "40000"), (3, "1x"), (4, "2"), (6, ""), (6, "0,0"), (3, "\x01")]
-        {
+        for (field, bad) in bad.into_iter().chain([(3, "\x01")]) {
             let mut lines = lines.clone();
             lines[line][field] = String::from(bad);
             list.push(text(&lines, MARK));
@@ -326,9 +345,8 @@ fn breaks(kind: u32, file: &[u8]) -> Vec<Vec<u8>> {
 }
 
 /// Two rules broken at once: the bytes of two damages side by side.
-fn pairs(walk: &mut Walk, kind: u32) {
-    let layout = Layout::new(2, 3, 2, kind);
-    let list = breaks(kind, &Recording::plain(layout).bytes());
+fn pairs(walk: &mut Walk, layout: Layout) {
+    let list = breaks(&Recording::plain(layout));
     for (turn, one) in list.iter().enumerate() {
         for other in &list {
             let file = || {
@@ -344,12 +362,11 @@ fn pairs(walk: &mut Walk, kind: u32) {
 }
 
 /// A file of the most rows, and of one more and one less than it should have.
-fn most_rows(walk: &mut Walk, kind: u32) {
-    let layout = Layout::new(0, 1, 1_000_000, kind);
+fn most_rows(walk: &mut Walk, layout: Layout) {
     let file = || plain_file(layout);
     walk.case(|| Case::Check { layout, file: file() });
     walk.case(|| Case::Row { layout, file: file(), n: 1_000_000, places: 2 });
-    walk.case(|| change(layout, file(), (kind + 1) % 3, 0));
+    walk.case(|| change(layout, file(), (layout.kind + 1) % 3, 0));
     walk.case(|| Case::Check { layout: Layout { rows: 999_999, ..layout }, file: file() });
     walk.case(|| {
         let mut file = file();
@@ -359,8 +376,8 @@ fn most_rows(walk: &mut Walk, kind: u32) {
 }
 
 /// Each field of a text row replaced by each spelling.
-fn text_fields(walk: &mut Walk) {
-    let layout = Layout::new(2, 2, 2, 0);
+fn text_fields(walk: &mut Walk, edition: u32) {
+    let layout = Layout::of(2, 2, 2, (0, edition));
     let lines = Recording::plain(layout).lines();
     for line in 0..2 {
         for field in 0..lines[line].len() {
@@ -410,8 +427,8 @@ fn long_rows(walk: &mut Walk) {
 }
 
 /// The longest row that there is, 1,880 bytes, each field as long as it may be, and one field longer or shorter by one.
-fn widest_rows(walk: &mut Walk) {
-    let layout = Layout::new(96, 256, 1, 0);
+fn widest_rows(walk: &mut Walk, edition: u32) {
+    let layout = Layout::of(96, 256, 1, (0, edition));
     let line = widest_line(1);
     four_calls(walk, layout, 1, &|| text(&[line.clone()], MARK));
     for field in [0, 1, 2, 50, 97, 98, 353] {
@@ -429,6 +446,17 @@ fn widest_rows(walk: &mut Walk) {
             for ending in 0..3 {
                 let cut = |bytes: Vec<u8>| bytes[..bytes.len() - [0, 3, 4][ending]].to_vec();
                 four_calls(walk, layout, field, &|| cut(file()));
+            }
+        }
+    }
+}
+
+/// Each number of a kind and of an edition, and those that are none, with sizes that are right, out of range, and with rows that there are not.
+fn editions(walk: &mut Walk) {
+    for (a, d, rows) in [(1, 1, 2), (2, 17, 1), (0, 0, 1), (97, 1, 1), (1, 257, 2), (1, 1, 0), (1, 1, 1_000_001)] {
+        for kind in KINDS {
+            for edition in EDITIONS {
+                size(walk, Layout::of(a, d, rows, (kind, edition)));
             }
         }
     }

@@ -55,6 +55,13 @@ binary
 0,x
 B,0";
 
+/// The configurations that cases are made from, and the same of 1999.
+pub fn drafts() -> Vec<Draft> {
+    let of_2013 = [RECORDING, FILLED, LEAST].map(Draft::of);
+    let of_1999 = of_2013.clone().map(|draft| draft.of_1999());
+    of_2013.into_iter().chain(of_1999).collect()
+}
+
 /// One field of a line.
 #[derive(Clone)]
 pub struct Field {
@@ -93,8 +100,8 @@ impl Draft {
     pub fn of(text: &str) -> Draft {
         let lines: Vec<Vec<&str>> = text.split('\n').map(|line| line.split(',').collect()).collect();
         let (a, d) = (digits(lines[1][1]), digits(lines[1][2]));
-        let rates = digits(lines[3 + a + d][0]);
-        let rules = all_lines(a, d, rates);
+        let (rates, edition) = (digits(lines[3 + a + d][0]), digits(lines[0][2]));
+        let rules = all_lines(a, d, rates, edition as u32);
         assert_eq!(rules.len(), lines.len(), "a draft has all lines of its configuration");
         let field = |(&rule, text): (&Rule, &&str)| Field { rule, bytes: text.as_bytes().to_vec() };
         let fields = |(rules, texts): (&&[Rule], &Vec<&str>)| rules.iter().zip(texts).map(field).collect();
@@ -144,6 +151,16 @@ impl Draft {
         self.with(line, field, word.as_bytes())
     }
 
+    /// The same of the 1999 edition: its year, binary in place of binary32, and nothing after the time multiplier.
+    pub fn of_1999(&self) -> Draft {
+        let (line, field) = self.place(Rule::Year);
+        let mut draft = self.with(line, field, b"1999");
+        let (line, field) = self.place(Rule::Kind);
+        draft.lines[line][field].bytes.truncate("binary".len());
+        draft.lines.truncate(self.place(Rule::Multiplier).0 + 1);
+        draft
+    }
+
     /// The same with a space before each number, code and text that may have one more.
     pub fn spaced(&self) -> Draft {
         let mut draft = self.clone();
@@ -188,14 +205,15 @@ impl Draft {
         panic!("no field of the rule {rule:?}");
     }
 
-    /// A random configuration, most often an accepted one.
+    /// A random configuration, most often an accepted one, one in three of 1999.
     pub fn random(dice: &mut Dice) -> Draft {
         let (a, d) = random_channels(dice);
         let rates = if dice.once_in(3) { dice.index(9) } else { dice.index(3) };
-        let mut spelling = Spelling { a, d, rates, last_row: 0, index: 0, limit: 0 };
+        let edition = if dice.once_in(3) { 1999 } else { 2013 };
+        let mut spelling = Spelling { a, d, rates, edition, last_row: 0, index: 0, limit: 0 };
         let field = |spelling: &mut Spelling, dice: &mut Dice, rule| Field { rule, bytes: spelling.value(dice, rule) };
         let mut lines = Vec::new();
-        for rules in all_lines(a, d, rates) {
+        for rules in all_lines(a, d, rates, edition) {
             lines.push(rules.iter().map(|&rule| field(&mut spelling, dice, rule)).collect());
         }
         Draft { lines }
@@ -220,6 +238,7 @@ struct Spelling {
     a: usize,
     d: usize,
     rates: usize,
+    edition: u32,
     last_row: i64,
     index: usize,
     limit: i64,
@@ -230,7 +249,7 @@ impl Spelling {
     fn value(&mut self, dice: &mut Dice, rule: Rule) -> Vec<u8> {
         let text = match rule {
             Rule::Text(least, most) => return random_text(dice, least, most),
-            Rule::Year => String::from("2013"),
+            Rule::Year => self.edition.to_string(),
             Rule::Total => count(dice, (self.a + self.d) as i64, 6),
             Rule::Analogs => count(dice, self.a as i64, 6) + "A",
             Rule::Statuses => count(dice, self.d as i64, 6) + "D",
@@ -246,7 +265,7 @@ impl Spelling {
             Rule::LastRow => self.next_last_row(dice),
             Rule::Date => date(dice),
             Rule::Time => time(dice),
-            Rule::Kind => kind(dice),
+            Rule::Kind => kind(dice, self.edition),
             Rule::Multiplier => real(dice, 32, Some(true)),
             Rule::LocalCode if dice.once_in(4) => String::from(dice.pick(&["x", " x", "     x"])),
             Rule::Code | Rule::LocalCode => code(dice),
@@ -354,9 +373,13 @@ fn time(dice: &mut Dice) -> String {
     format!("{hour:02}:{minute:02}:{second:02}.{fraction:0places$}")
 }
 
-/// A kind's word with letters of either case.
-fn kind(dice: &mut Dice) -> String {
-    let word = dice.pick(&["ascii", "binary", "binary32"]);
+/// The word of a kind that the edition has most often, with letters of either case.
+fn kind(dice: &mut Dice, edition: u32) -> String {
+    let words: &[&str] = match edition {
+        1999 if dice.below(16) > 0 => &["ascii", "binary"],
+        _ => &["ascii", "binary", "binary32"],
+    };
+    let word = dice.pick(words);
     word.chars().map(|letter| if dice.once_in(2) { letter.to_ascii_uppercase() } else { letter }).collect()
 }
 

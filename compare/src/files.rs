@@ -4,15 +4,22 @@ use crate::case::Layout;
 use crate::draft::count;
 use crate::words::MISSING;
 use dice::Dice;
+use std::ops::RangeInclusive;
 
 /// The mark that ends a plain text file.
 pub const MARK: &[u8] = b"\x1a\r\n";
 
+/// The kinds that there are, each with its edition.
+pub const EDITION_KINDS: [(u32, u32); 5] = [(0, 2013), (1, 2013), (2, 2013), (0, 1999), (1, 1999)];
+
+/// The number that means a missing sample in a text of 1999.
+const NINES: i64 = 99_999;
+
 /// Samples at the edges of the kinds, and where a plain decimal gets a digit more; a missing one.
 #[rustfmt::skip]
-pub const SAMPLES: [i64; 45] = [
+pub const SAMPLES: [i64; 49] = [
     0, 1, -1, 9, 10, -9, -10, 99, 100, 127, 128, -128, -129, 255, 256, 999, 1000, 9_999, 10_000, 32_766, 32_767, 32_768,
-    -32_767, -32_768, -32_769, 65_535, 65_536, 99_999, 100_000, 999_999, 1_000_000, 9_999_999, 10_000_000, 99_999_999,
+    -32_767, -32_768, -32_769, 65_535, 65_536, 99_998, 99_999, 100_000, -99_998, -99_999, -100_000, 999_999, 1_000_000, 9_999_999, 10_000_000, 99_999_999,
     100_000_000, 999_999_999, 1_000_000_000, -999_999_999, -1_000_000_000, 2_147_483_646, 2_147_483_647,
     -2_147_483_647, -2_147_483_648, -100, MISSING,
 ];
@@ -62,16 +69,39 @@ fn binary_row(layout: Layout, n: u32, row: &[i64]) -> Vec<u8> {
     bytes
 }
 
+/// The lowest sample and the highest.
+pub fn range(layout: Layout) -> RangeInclusive<i64> {
+    match (layout.kind, layout.edition) {
+        (0, 1999) => -NINES..=NINES - 1,
+        (1, _) => -32_767..=32_767,
+        _ => -2_147_483_647..=2_147_483_647,
+    }
+}
+
 /// A row's fields as plain text.
-pub fn text_fields(n: u32, row: &[i64]) -> Vec<String> {
-    let field = |&number: &i64| if number == MISSING { String::new() } else { number.to_string() };
+fn text_fields(layout: Layout, n: u32, row: &[i64]) -> Vec<String> {
+    let field = |&number: &i64| match (number, layout.edition) {
+        (MISSING, 1999) => NINES.to_string(),
+        (MISSING, _) => String::new(),
+        _ => number.to_string(),
+    };
     [i64::from(n)].iter().chain(row).map(field).collect()
+}
+
+/// Whether a text of 1999 that passes its check has a missing sample: a field worth 99999 among its samples.
+fn has_nines(layout: Layout, file: &[u8]) -> bool {
+    let text = String::from_utf8_lossy(file);
+    let nines = |field: &str| field.trim_start().parse() == Ok(NINES);
+    let mut rows = text.split("\r\n").take(layout.rows as usize);
+    rows.any(|row| row.split(',').skip(2).take(layout.a as usize).any(nines))
 }
 
 /// Whether a file that passes its check has a missing sample.
 pub fn has_missing(layout: Layout, file: &[u8]) -> bool {
-    if layout.kind == 0 {
-        return file.windows(2).any(|pair| matches!(pair, b",," | b",\r"));
+    match (layout.kind, layout.edition) {
+        (0, 1999) => return has_nines(layout, file),
+        (0, _) => return file.windows(2).any(|pair| matches!(pair, b",," | b",\r")),
+        _ => (),
     }
     let (width, a) = (width(layout.kind), layout.a as usize);
     let missing = |bytes: &[u8]| bytes == missing_pattern(layout.kind);
@@ -90,7 +120,7 @@ pub fn widest_line(n: u32) -> Vec<String> {
 /// A row's bytes in the layout's kind, with its line end if it is text.
 pub fn row_bytes(layout: Layout, n: u32, row: &[i64]) -> Vec<u8> {
     match layout.kind {
-        0 => (text_fields(n, row).join(",") + "\r\n").into_bytes(),
+        0 => (text_fields(layout, n, row).join(",") + "\r\n").into_bytes(),
         _ => binary_row(layout, n, row),
     }
 }
@@ -150,14 +180,14 @@ impl Recording {
 
     /// The rows of a text as lines of fields.
     pub fn lines(&self) -> Vec<Vec<String>> {
-        (1..).zip(&self.rows).map(|(n, row)| text_fields(n, row)).collect()
+        (1..).zip(&self.rows).map(|(n, row)| text_fields(self.layout, n, row)).collect()
     }
 
-    /// Rows of random samples that fit the kind; most often they fit the binary kind too. In half of the files about one sample in 1, 2, 4 or 16 is missing.
+    /// Rows of random samples that fit the layout; most often they fit the binary kind too. In half of the files about one sample in 1, 2, 4 or 16 is missing.
     pub fn random(dice: &mut Dice, layout: Layout) -> Recording {
-        let narrow = layout.kind == 1 || dice.below(3) > 0;
+        let narrow = dice.below(3) > 0;
         let missing = dice.pick(&[0, 0, 0, 0, 1, 2, 4, 16]);
-        let highest = if narrow { 32_767 } else { 2_147_483_647 };
+        let range = range(if narrow { layout.of_kind(1) } else { layout });
         let sample = |dice: &mut Dice| loop {
             if missing > 0 && dice.once_in(missing) {
                 return MISSING;
@@ -165,9 +195,9 @@ impl Recording {
             let sample = match dice.below(3) {
                 0 => dice.pick(&SAMPLES),
                 1 => dice.within(-40, 40),
-                _ => dice.word() as i64 >> if dice.once_in(2) { 32 } else { 48 },
+                _ => dice.word() as i64 >> dice.pick(&[32, 46, 48, 48]),
             };
-            if (-highest..=highest).contains(&sample) {
+            if range.contains(&sample) {
                 return sample;
             }
         };

@@ -4,10 +4,10 @@ use crate::buffer::{bytes_of, Buffer};
 use crate::case::{Case, Layout, POSSIBLE};
 use crate::configs::config;
 use crate::draft::MOST_BYTES;
-use crate::files::has_missing;
+use crate::files::{has_missing, range};
 use crate::lent::{Flush, Lent};
 use crate::library;
-use crate::rules::is_bare;
+use crate::rules::{all_lines, is_bare};
 use crate::watch;
 use crate::words::{self, MISSING};
 use second::Answer;
@@ -15,8 +15,9 @@ use second::Answer;
 /// Bytes of a file above which a change is followed by no more than a length and a check, so that it does not take seconds.
 const LARGE: usize = 1 << 20;
 
-/// The place in which a configuration shows its kind.
+/// The places in which a configuration shows its kind, and its edition.
 const SHOWN_KIND: usize = 28;
+const SHOWN_EDITION: usize = 34;
 
 /// What a case must answer, where that is known by itself.
 #[derive(Debug, Clone)]
@@ -81,12 +82,12 @@ fn well_formed(case: &Case, answer: Answer) -> Result<(), String> {
     Err(format!("both answer {}, which this call can't", spelled(answer)))
 }
 
-/// What every row that is shown keeps: its time has 32 bits, a sample is missing or within the range of its kind, and a status is 0 or 1.
+/// What every row that is shown keeps: its time has 32 bits, a sample is missing or within the range of its layout, and a status is 0 or 1.
 fn row_in_range(layout: Layout, row: &[i64]) -> Result<(), String> {
     let (samples, statuses) = row[1..].split_at(layout.a as usize);
-    let highest = if layout.kind == 1 { 32_767 } else { 2_147_483_647 };
+    let range = range(layout);
     let fine = u32::try_from(row[0]).is_ok()
-        && samples.iter().all(|sample| *sample == MISSING || (-highest..=highest).contains(sample))
+        && samples.iter().all(|sample| *sample == MISSING || range.contains(sample))
         && statuses.iter().all(|status| matches!(status, 0 | 1));
     if fine {
         return Ok(());
@@ -126,14 +127,12 @@ impl Judge {
         match case {
             Case::Config { cfg, .. } => second::config(cfg, out.places_mut()),
             Case::WriteConfig { cfg, kind, .. } => second::write_config(cfg, *kind, out.bytes_mut()),
-            Case::Check { layout: l, file } => second::check(l.a, l.d, l.rows, l.kind, file),
-            Case::Row { layout: l, file, n, .. } => second::row(l.a, l.d, l.rows, l.kind, file, *n, out.places_mut()),
-            Case::WriteRow { layout: l, n, row, .. } => {
-                second::write_row(l.a, l.d, l.rows, l.kind, *n, row, out.bytes_mut())
-            }
-            Case::Length { layout: l, file, new_kind } => second::length(l.a, l.d, l.rows, l.kind, file, *new_kind),
-            Case::Change { layout: l, file, new_kind, .. } => {
-                second::change(l.a, l.d, l.rows, l.kind, file, *new_kind, out.bytes_mut())
+            Case::Check { layout, file } => second::check(layout.numbers(), file),
+            Case::Row { layout, file, n, .. } => second::row(layout.numbers(), file, *n, out.places_mut()),
+            Case::WriteRow { layout, n, row, .. } => second::write_row(layout.numbers(), *n, row, out.bytes_mut()),
+            Case::Length { layout, file, new_kind } => second::length(layout.numbers(), file, *new_kind),
+            Case::Change { layout, file, new_kind, .. } => {
+                second::change(layout.numbers(), file, *new_kind, out.bytes_mut())
             }
             Case::Reason { number, .. } => reason(&self.reasons, *number, out.bytes_mut()),
         }
@@ -344,7 +343,7 @@ impl Judge {
             return Err(format!("the written configuration is read {}, shows {places}", spelled(read)));
         }
         let [a, d, rates] = [shown[0], shown[1], shown[2]].map(|count| count as usize);
-        if !is_bare(&result, a, d, rates) {
+        if !is_bare(&result, &all_lines(a, d, rates, shown[SHOWN_EDITION] as u32)) {
             return Err(format!("there is a space before a number, or no CR LF, in {}", words::spelled(&result)));
         }
         let room = result.len();

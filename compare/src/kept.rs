@@ -1,33 +1,34 @@
 //! Cases with known answers, as the files of kept/ have them; README.md says how a case is spelled.
 
-use crate::case::{parse, parse_layout, Case, Layout};
-use crate::draft::RECORDING;
+use crate::case::{parse, parse_layout, Case, Layout, CONFIG_PLACES};
+use crate::draft::{Draft, RECORDING};
 use crate::judge::Expected;
 use crate::walk::Walk;
-use crate::words::{Names, Words};
+use crate::words::{Names, Words, MISSING};
 use second::Answer;
 
 /// The files, in an order that stays.
-const FILES: [(&str, &str); 5] = [
+const FILES: [(&str, &str); 6] = [
     ("vectors", include_str!("../kept/vectors")),
     ("configurations", include_str!("../kept/configurations")),
     ("rewritten", include_str!("../kept/rewritten")),
     ("data", include_str!("../kept/data")),
     ("changes", include_str!("../kept/changes")),
+    ("editions", include_str!("../kept/editions")),
 ];
 
 /// What the recording of the rules shows.
 #[rustfmt::skip]
-const SHOWN: [i64; 34] = [
+const SHOWN: [i64; CONFIG_PLACES] = [
     1, 1, 1, 2, 2, 0, 0, 0, 0, 0, 0, 0, 2024, 2, 3, 9, 15, 0, 0, 2024, 2, 3, 9, 15, 0, 1_000_000,
-    0, 1_000_000, 0, 0, 0, 0, 0, 3,
+    0, 1_000_000, 0, 0, 0, 0, 0, 3, 2013,
 ];
 
 /// The names of what is shown, the place where each begins, and how many it has.
 #[rustfmt::skip]
-const NAMED: [(&str, usize, usize); 13] = [
+const NAMED: [(&str, usize, usize); 14] = [
     ("A", 0, 1), ("D", 1, 1), ("rates", 2, 1), ("rows", 3, 1), ("last", 4, 8), ("first", 12, 7), ("trigger", 19, 7),
-    ("pretrigger", 26, 2), ("kind", 28, 1), ("code", 29, 1), ("local", 30, 2), ("quality", 32, 1), ("leap", 33, 1),
+    ("pretrigger", 26, 2), ("kind", 28, 1), ("code", 29, 1), ("local", 30, 2), ("quality", 32, 1), ("leap", 33, 1), ("edition", 34, 1),
 ];
 
 /// A case and what it must answer.
@@ -55,7 +56,9 @@ pub fn walk(walk: &mut Walk) {
 /// The cases of a line, after its first word, which says what they are about; nothing if it is misspelled.
 fn read(w: &mut Words, line: &str) -> Option<Vec<Known>> {
     let known = if w.is("line") {
-        vec![configuration(w, line)?]
+        vec![configuration(w, &Draft::of(RECORDING), &SHOWN, line)?]
+    } else if w.is("line1999") {
+        vec![configuration(w, &Draft::of(RECORDING).of_1999(), &shown_of_1999(), line)?]
     } else if w.is("data") {
         data(w, line)?
     } else {
@@ -112,33 +115,37 @@ fn call(w: &mut Words, line: &str) -> Option<Known> {
     Some((case, expected))
 }
 
-/// Lines of a configuration, each with CR LF.
-fn ended(lines: &[&str]) -> Vec<u8> {
-    lines.iter().flat_map(|line| [line.as_bytes(), b"\r\n"].concat()).collect()
+/// What the recording shows as one of 1999: nothing of the lines that it then lacks.
+fn shown_of_1999() -> [i64; CONFIG_PLACES] {
+    let mut shown = SHOWN;
+    shown[29..34].fill(MISSING);
+    shown[34] = 1999;
+    shown
 }
 
-/// The recording with other bytes in place of its lines `7`, `6-7`, or `13-`, where the file ends with these bytes.
-fn replaced(lines: &str, bytes: &[u8]) -> Option<Vec<u8>> {
-    let recording: Vec<&str> = RECORDING.lines().collect();
+/// A recording with other bytes in place of its lines `7`, `6-7`, or `13-`, where the file ends with these bytes.
+fn replaced(recording: &Draft, lines: &str, bytes: &[u8]) -> Option<Vec<u8>> {
+    let whole = recording.bytes();
+    let recording: Vec<&[u8]> = whole.split_inclusive(|&byte| byte == b'\n').collect();
     let (first, last) = lines.split_once('-').unwrap_or((lines, lines));
     let before = first.parse::<usize>().ok()?.checked_sub(1)?;
-    let start = [&ended(recording.get(..before)?), bytes].concat();
+    let start = [&recording.get(..before)?.concat(), bytes].concat();
     if last.is_empty() {
         return Some(start);
     }
     let after = recording.get(last.parse().ok()?..)?;
-    Some([start, b"\r\n".to_vec(), ended(after)].concat())
+    Some([start, b"\r\n".to_vec(), after.concat()].concat())
 }
 
-/// The recording with some of its lines replaced; a "yes" shows what it does, but for what is told by its name.
-fn configuration(w: &mut Words, line: &str) -> Option<Known> {
+/// A recording with some of its lines replaced; a "yes" shows what it does, but for what is told by its name.
+fn configuration(w: &mut Words, recording: &Draft, shown: &[i64], line: &str) -> Option<Known> {
     let lines = w.word()?;
-    let case = Case::Config { cfg: replaced(lines, &w.bytes()?)?, places: SHOWN.len() };
+    let case = Case::Config { cfg: replaced(recording, lines, &w.bytes()?)?, places: shown.len() };
     w.is("->").then_some(())?;
     if !w.is("yes") {
         return Some((case, no(w, line)?));
     }
-    let mut shown = SHOWN.to_vec();
+    let mut shown = shown.to_vec();
     while let Some(name) = w.word() {
         let &(_, start, count) = NAMED.iter().find(|named| named.0 == name)?;
         let values = match name {

@@ -223,7 +223,7 @@ fn main() -> ExitCode {
         None => run(&settings, &reasons),
     };
     if settings.only.is_none() {
-        println!("{}\n\n{}\n", found.tally.table(false), found.tally.table(true));
+        println!("{}\n", found.tally.tables());
         let never_given = found.tally.never_given();
         found.differ += never_given.len() as u64;
         found.said.splice(0..0, never_given);

@@ -3,24 +3,24 @@
 use crate::calls::{change, every_call, length_and_change, needed};
 use crate::case::{Case, Layout};
 use crate::damage::Damage;
-use crate::files::Recording;
+use crate::files::{range, Recording, EDITION_KINDS};
 use crate::walk::Walk;
 
 /// Numbers of samples, about those that may be tested at a time.
 const ANALOGS: [u32; 9] = [1, 2, 7, 8, 9, 15, 16, 17, 96];
 
-/// Samples that do not fit the binary kind.
-const MISFITS: [i64; 5] = [32_768, -32_768, -32_769, 2_147_483_647, -2_147_483_647];
+/// Samples that do not fit the binary kind, the last two neither a text of 1999.
+const MISFITS: [i64; 7] = [32_768, -32_768, -32_769, 99_998, -99_999, 2_147_483_647, -2_147_483_647];
 
 /// Samples that just do.
 const FITS: [i64; 2] = [32_767, -32_767];
 
 /// All cases, in an order that stays.
 pub fn walk(walk: &mut Walk) {
-    for kind in 0..3 {
+    for kind in EDITION_KINDS {
         for a in ANALOGS {
-            let recording = Recording::plain(Layout::new(a, 5, 3, kind));
-            if kind != 1 {
+            let recording = Recording::plain(Layout::of(a, 5, 3, kind));
+            if kind.0 != 1 {
                 one_misfit(walk, &recording);
             }
             one_at_the_limit(walk, &recording);
@@ -28,9 +28,9 @@ pub fn walk(walk: &mut Walk) {
             one_written(walk, &recording);
         }
     }
-    for kind in [0, 2] {
-        two_misfits(walk, &Recording::plain(Layout::new(17, 5, 3, kind)));
-        misfit_and_fault(walk, &Recording::plain(Layout::new(2, 5, 3, kind)));
+    for kind in [(0, 2013), (2, 2013), (0, 1999)] {
+        two_misfits(walk, &Recording::plain(Layout::of(17, 5, 3, kind)));
+        misfit_and_fault(walk, &Recording::plain(Layout::of(2, 5, 3, kind)));
     }
     rooms(walk);
 }
@@ -64,12 +64,12 @@ fn one_at_the_limit(walk: &mut Walk, recording: &Recording) {
     }
 }
 
-/// A row written with one sample just outside the kind's range, or just within it, in every place.
+/// A row written with one sample just outside the layout's range, or just within it, in every place.
 fn one_written(walk: &mut Walk, recording: &Recording) {
     let layout = recording.layout;
-    let half = if layout.kind == 1 { 1 << 15 } else { 1 << 31 };
+    let (lowest, highest) = range(layout).into_inner();
     for place in 1..=layout.a as usize {
-        for sample in [half, -half - 1, -half, half - 1, 1 - half] {
+        for sample in [highest + 1, lowest - 2, lowest - 1, highest, lowest] {
             walk.case(|| {
                 let row = recording.with(1, place, sample).rows[1].clone();
                 Case::WriteRow { layout, n: 2, row, room: 3000 }

@@ -3,7 +3,7 @@
 use crate::calls::{every_call, four_calls, length_and_change};
 use crate::case::{Case, Layout};
 use crate::damage::Damage;
-use crate::files::{row_bytes, text, Recording, MARK};
+use crate::files::{row_bytes, text, Recording, EDITION_KINDS, MARK};
 use crate::walk::Walk;
 use crate::words::MISSING;
 
@@ -22,40 +22,44 @@ const WIDE: [i64; 16] = [
 
 /// Fields of a text: the empty one, spaces, what may stand for a missing sample elsewhere, and the lowest samples.
 #[rustfmt::skip]
-const FIELDS: [&str; 27] = [
+const FIELDS: [&str; 36] = [
     "", " ", "  ", "             ", "              ", "-2147483648", "-2147483647", "-2147483649", "-002147483648",
     "-002147483647", " -2147483648", "-32768", "-32767", "-32769", "-", "+", " -", "x", "X", "-0", "0", "\"\"", "99999", "NaN",
-    "1", "\t", "0 ",
+    "1", "\t", "0 ", "+99999", "-99999", " 99999", "0000000099999", "00000000099999", "99998", "100000", "-100000", "9999",
 ];
 
 /// Numbers for the places of a row that is written: of a missing sample, beside it, and about the lowest samples.
 #[rustfmt::skip]
-const NUMBERS: [i64; 18] = [
+const NUMBERS: [i64; 24] = [
     MISSING, MISSING + 1, MISSING + 2, i64::MAX, -2_147_483_649, -2_147_483_648, -2_147_483_647, -32_769, -32_768, -32_767,
     32_767, 32_768, 2_147_483_647, 2_147_483_648, -4_294_967_296, 4_294_967_295, 0, 1,
+    99_998, 99_999, 100_000, -99_998, -99_999, -100_000,
 ];
 
 /// All cases, in an order that stays.
 pub fn walk(walk: &mut Walk) {
-    for kind in 0..3 {
+    for kind in EDITION_KINDS {
         for a in ANALOGS {
             for d in [0, 1, 16] {
-                let recording = Recording::plain(Layout::new(a, d, 2, kind));
+                let recording = Recording::plain(Layout::of(a, d, 2, kind));
                 one_missing(walk, &recording);
                 many_missing(walk, &recording);
             }
         }
-        every_set(walk, &Recording::plain(Layout::new(5, 2, 2, kind)));
-        beside_misfits(walk, &Recording::plain(Layout::new(17, 5, 3, kind)));
-        before_a_fault(walk, &Recording::plain(Layout::new(3, 5, 3, kind)));
-        beside_its_pattern(walk, kind);
-        places_to_write(walk, kind);
+        every_set(walk, &Recording::plain(Layout::of(5, 2, 2, kind)));
+        beside_misfits(walk, &Recording::plain(Layout::of(17, 5, 3, kind)));
+        before_a_fault(walk, &Recording::plain(Layout::of(3, 5, 3, kind)));
+        beside_its_pattern(walk, Layout::of(2, 32, 2, kind));
+        places_to_write(walk, Layout::of(3, 2, 2, kind));
     }
-    patterns(walk, 1, &NARROW);
-    patterns(walk, 2, &WIDE);
-    fields(walk);
-    commas(walk);
-    fields_in_eights(walk);
+    patterns(walk, (1, 2013), &NARROW);
+    patterns(walk, (2, 2013), &WIDE);
+    patterns(walk, (1, 1999), &NARROW);
+    for edition in [2013, 1999] {
+        fields(walk, edition);
+        commas(walk, edition);
+        fields_in_eights(walk, edition);
+    }
 }
 
 /// A row written into a byte less than it needs, just that, and more.
@@ -129,8 +133,7 @@ fn before_a_fault(walk: &mut Walk, recording: &Recording) {
 }
 
 /// A time and a status word with the bytes of a missing sample, beside samples of which each is missing or 0: they are numbers.
-fn beside_its_pattern(walk: &mut Walk, kind: u32) {
-    let layout = Layout::new(2, 32, 2, kind);
+fn beside_its_pattern(walk: &mut Walk, layout: Layout) {
     for time in [0x8000_0000, 0x8000, 0xFFFF_8000, 0xFFFF_FFFF] {
         for samples in [[MISSING, 0], [0, MISSING], [MISSING, MISSING], [0, 0]] {
             let mut recording = Recording::plain(layout);
@@ -147,8 +150,7 @@ fn beside_its_pattern(walk: &mut Walk, kind: u32) {
 }
 
 /// Each number in each place of a row that is written, alone and with a missing sample in each place.
-fn places_to_write(walk: &mut Walk, kind: u32) {
-    let layout = Layout::new(3, 2, 2, kind);
+fn places_to_write(walk: &mut Walk, layout: Layout) {
     let row = Recording::plain(layout).rows[0].clone();
     for place in 0..row.len() {
         for number in NUMBERS {
@@ -167,9 +169,9 @@ fn places_to_write(walk: &mut Walk, kind: u32) {
 }
 
 /// Each pattern of a binary kind in every place of a row, and in all.
-fn patterns(walk: &mut Walk, kind: u32, patterns: &[i64]) {
+fn patterns(walk: &mut Walk, kind: (u32, u32), patterns: &[i64]) {
     for a in [1, 2, 8, 9] {
-        let recording = Recording::plain(Layout::new(a, 1, 2, kind));
+        let recording = Recording::plain(Layout::of(a, 1, 2, kind));
         for &pattern in patterns {
             for place in 1..=a as usize {
                 let file = || recording.with(place % 2, place, pattern).bytes();
@@ -182,12 +184,12 @@ fn patterns(walk: &mut Walk, kind: u32, patterns: &[i64]) {
 }
 
 /// Each spelling in each field of a text, whose samples are all there, or all missing.
-fn fields(walk: &mut Walk) {
+fn fields(walk: &mut Walk, edition: u32) {
     for (a, d) in [(3, 2), (2, 0), (1, 1), (0, 2)] {
-        let layout = Layout::new(a, d, 2, 0);
+        let layout = Layout::of(a, d, 2, (0, edition));
         let plain = Recording::plain(layout);
-        let empty = plain.without(0, 1..=a as usize).without(1, 1..=a as usize);
-        for lines in [plain.lines(), empty.lines()] {
+        let missing = plain.without(0, 1..=a as usize).without(1, 1..=a as usize);
+        for lines in [plain.lines(), missing.lines()] {
             for line in 0..2 {
                 for field in 0..lines[line].len() {
                     for spelling in FIELDS {
@@ -205,9 +207,9 @@ fn fields(walk: &mut Walk) {
 }
 
 /// Rows of nothing but commas after the time, too few, enough and too many, with statuses behind them and without.
-fn commas(walk: &mut Walk) {
+fn commas(walk: &mut Walk, edition: u32) {
     for (a, d) in [(0, 1), (1, 0), (1, 1), (2, 0), (2, 3), (8, 0), (9, 1), (96, 0)] {
-        let layout = Layout::new(a, d, 1, 0);
+        let layout = Layout::of(a, d, 1, (0, edition));
         for count in 0..=a as usize + 3 {
             for statuses in [0, d as usize] {
                 for end in ["\r\n", "", "\r", "\n", " \r\n"] {
@@ -219,22 +221,22 @@ fn commas(walk: &mut Walk) {
     }
 }
 
-/// Empty fields over the seams of blocks of eight bytes: behind a time of 1 to 13 characters all samples are missing, or all but one of 1 to 9 digits.
-fn fields_in_eights(walk: &mut Walk) {
+/// Missing samples over the seams of blocks of eight bytes: behind a time of 1 to 13 characters all are missing, or all but one of 1 to 9 digits.
+fn fields_in_eights(walk: &mut Walk, edition: u32) {
     for width in 1..=13 {
         for a in [1, 2, 6, 7, 8, 9, 15, 16, 17] {
-            let layout = Layout::new(a, 2, 2, 0);
-            let empty = Recording::plain(layout).without(0, 1..=a as usize).without(1, 1..=a as usize);
-            let file = |place: usize, digits: usize| {
-                let mut lines = empty.lines();
-                lines[0][1] = format!("{:>width$}", 5);
-                lines[0][1 + place].push_str(&"7".repeat(digits));
-                text(&lines, MARK)
-            };
-            every_call(walk, layout, &|| file(1, 0));
+            let layout = Layout::of(a, 2, 2, (0, edition));
+            let mut lines = Recording::plain(layout).without(0, 1..=a as usize).without(1, 1..=a as usize).lines();
+            lines[0][1] = format!("{:>width$}", 5);
+            every_call(walk, layout, &|| text(&lines, MARK));
             for place in 1..=a as usize {
                 let digits = 1 + (place + width) % 9;
-                four_calls(walk, layout, place + width, &|| file(place, digits));
+                let file = || {
+                    let mut lines = lines.clone();
+                    lines[0][1 + place] = "7".repeat(digits);
+                    text(&lines, MARK)
+                };
+                four_calls(walk, layout, place + width, &file);
             }
         }
     }

@@ -1,11 +1,11 @@
 //! Random cases: a good file, damaged up to four times, and arguments near those that go with it.
 
 use crate::calls::{needed, rewritten_length};
-use crate::case::{Case, Layout};
+use crate::case::{Case, Layout, CONFIG_PLACES};
 use crate::damage;
-use crate::data::{ENDINGS, FIELDS};
+use crate::data::{EDITIONS, ENDINGS, FIELDS};
 use crate::draft::Draft;
-use crate::files::{row_bytes, text, Recording, BEYOND, SAMPLES};
+use crate::files::{row_bytes, text, Recording, BEYOND, EDITION_KINDS, SAMPLES};
 use dice::Dice;
 
 /// The case of a seed and a number.
@@ -53,7 +53,7 @@ fn config(dice: &mut Dice) -> Case {
     if dice.once_in(2000) {
         cfg.resize(65_530 + dice.index(10), b' ');
     }
-    let places = if dice.once_in(4) { near(dice, 34) } else { 34 };
+    let places = if dice.once_in(4) { near(dice, CONFIG_PLACES) } else { CONFIG_PLACES };
     Case::Config { cfg, places }
 }
 
@@ -79,6 +79,7 @@ fn shorter(dice: &mut Dice) -> Vec<u8> {
 /// A configuration about as long as one may be, of any kind, with and without its last CR LF.
 fn longest(dice: &mut Dice) -> Vec<u8> {
     let plain = Draft::plain(96, 256, &[2]).of_kind(dice.pick(&["ascii", "Binary", "BINARY32"]));
+    let plain = if dice.once_in(3) { plain.of_1999() } else { plain };
     let draft = if dice.once_in(4) { plain.spaced() } else { plain };
     let mut cfg = draft.filled_up(65_528 + dice.index(12));
     cfg.truncate(cfg.len() - dice.pick(&[0, 2]));
@@ -147,7 +148,7 @@ fn layout(dice: &mut Dice) -> Layout {
         _ => dice.within(1, 3),
     };
     let a = if a + d == 0 { 1 } else { a };
-    Layout::new(a as u32, d as u32, rows as u32, dice.below(3) as u32)
+    Layout::of(a as u32, d as u32, rows as u32, dice.pick(&EDITION_KINDS))
 }
 
 /// A file and the layout that it is asked with: the file's own, or one beside it.
@@ -160,7 +161,7 @@ fn file(dice: &mut Dice) -> (Layout, Vec<u8>) {
 
 /// The layout, or one in which a number is another.
 fn asked(dice: &mut Dice, layout: Layout) -> Layout {
-    let Layout { a, d, rows, kind } = layout;
+    let Layout { a, d, rows, kind, .. } = layout;
     let near = |dice: &mut Dice, number: u32, most: u32| match dice.below(6) {
         0 => u32::MAX,
         1 => most + 1,
@@ -174,7 +175,8 @@ fn asked(dice: &mut Dice, layout: Layout) -> Layout {
         1 => Layout { d: near(dice, d, 256), ..layout },
         2 => Layout { rows: near(dice, rows, 1_000_000), ..layout },
         3 => Layout { kind: near(dice, kind, 2), ..layout },
-        4 => Layout { kind: dice.below(3) as u32, ..layout },
+        4 => layout.of_kind(dice.below(3) as u32),
+        5 => layout.of_edition(dice.pick(&EDITIONS)),
         _ => layout,
     }
 }

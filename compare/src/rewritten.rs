@@ -3,7 +3,7 @@
 use crate::calls::{rewritten_length, write_config};
 use crate::case::Case;
 use crate::damage::{at_places, Damage};
-use crate::draft::{Draft, FILLED, LEAST, MOST_BYTES, RECORDING};
+use crate::draft::{drafts, Draft, MOST_BYTES};
 use crate::rules::cased;
 use crate::walk::Walk;
 
@@ -18,7 +18,7 @@ const ENDS: [&[u8]; 9] = [b"\r\n", b"", b"\r", b"\n", b" ", b"0", b"\r\n\r\n", b
 
 /// All cases, in an order that stays.
 pub fn walk(walk: &mut Walk) {
-    for draft in [RECORDING, FILLED, LEAST].map(Draft::of) {
+    for draft in drafts() {
         rooms(walk, &draft);
         kinds(walk, &draft);
         every_field(walk, &draft);
@@ -137,7 +137,7 @@ fn words(walk: &mut Walk, draft: &Draft) {
     }
 }
 
-/// Numbers of channels and rates, with a space before all that may have one: a line that is taken for another is seen.
+/// Numbers of channels and rates, of either edition, with a space before all that may have one: a line that is taken for another is seen.
 fn channels_and_rates(walk: &mut Walk) {
     let most = [(96, 256), (96, 0), (0, 256), (95, 255), (1, 256), (96, 1)];
     let few = (0..25).map(|k| (k / 5, k % 5)).filter(|&(a, d)| a + d > 0);
@@ -147,24 +147,33 @@ fn channels_and_rates(walk: &mut Walk) {
             for kind in 0..3 {
                 walk.case(|| write_config(Draft::plain(a, d, &last_rows).spaced().bytes(), kind));
             }
+            let kind = rates % 2;
+            walk.case(|| write_config(Draft::plain(a, d, &last_rows).of_1999().spaced().bytes(), kind));
         }
     }
 }
 
 /// Configurations and results about the most bytes, of each kind and to each, with and without the last CR LF, and room by turns.
 fn longest(walk: &mut Walk) {
+    let plain = Draft::plain(96, 256, &[2]);
+    for word in WORDS {
+        longest_of(walk, &plain.of_kind(word));
+        longest_of(walk, &plain.of_1999().of_kind(word));
+    }
+}
+
+/// The same of one draft.
+fn longest_of(walk: &mut Walk, draft: &Draft) {
     let rooms = [0, MOST_BYTES - 1, MOST_BYTES, MOST_BYTES + 1];
     for size in MOST_BYTES - 6..=MOST_BYTES + 3 {
-        for word in WORDS {
-            for cut in [0, 2] {
-                for kind in 0..4 {
-                    let room = rooms[(size + cut / 2 + kind as usize) % rooms.len()];
-                    walk.case(|| {
-                        let mut cfg = Draft::plain(96, 256, &[2]).of_kind(word).filled_up(size);
-                        cfg.truncate(size - cut);
-                        Case::WriteConfig { cfg, kind, room }
-                    });
-                }
+        for cut in [0, 2] {
+            for kind in 0..4 {
+                let room = rooms[(size + cut / 2 + kind as usize) % rooms.len()];
+                walk.case(|| {
+                    let mut cfg = draft.clone().filled_up(size);
+                    cfg.truncate(size - cut);
+                    Case::WriteConfig { cfg, kind, room }
+                });
             }
         }
     }

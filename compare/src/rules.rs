@@ -43,8 +43,8 @@ const STATUS: LineRules = &[Rule::Index, Rule::Text(1, 128), Rule::Text(0, 2), R
 const RATE: LineRules = &[Rule::Rate, Rule::LastRow];
 const MOMENT: LineRules = &[Rule::Date, Rule::Time];
 
-/// The rules of all lines of a configuration with so many channels and rates.
-pub fn all_lines(a: usize, d: usize, rates: usize) -> Vec<LineRules> {
+/// The rules of all lines of a configuration with so many channels and rates; one of 1999 ends with the time multiplier.
+pub fn all_lines(a: usize, d: usize, rates: usize, edition: u32) -> Vec<LineRules> {
     let mut lines = vec![STATION, CHANNELS];
     lines.extend(std::iter::repeat_n(ANALOG, a));
     lines.extend(std::iter::repeat_n(STATUS, d));
@@ -52,20 +52,21 @@ pub fn all_lines(a: usize, d: usize, rates: usize) -> Vec<LineRules> {
     lines.push(&[Rule::Rates]);
     lines.extend(std::iter::repeat_n(RATE, rates.max(1)));
     lines.extend([MOMENT, MOMENT, &[Rule::Kind], &[Rule::Multiplier]]);
-    lines.push(&[Rule::Code, Rule::LocalCode]);
-    lines.push(&[Rule::Quality, Rule::Leap]);
+    if edition != 1999 {
+        lines.push(&[Rule::Code, Rule::LocalCode]);
+        lines.push(&[Rule::Quality, Rule::Leap]);
+    }
     lines
 }
 
-/// Whether a configuration with so many channels and rates has CR LF on each line, and no space before a number or a code.
-pub fn is_bare(cfg: &[u8], a: usize, d: usize, rates: usize) -> bool {
+/// Whether a configuration whose lines have these rules has CR LF on each line, and no space before a number or a code.
+pub fn is_bare(cfg: &[u8], rules: &[LineRules]) -> bool {
     let lines = cfg.split_inclusive(|&byte| byte == b'\n');
     let bare = |(rule, field): (&Rule, &[u8])| !rule.is_number() || !field.starts_with(b" ");
-    let bare_line = |(rules, line): (LineRules, &[u8])| {
+    let bare_line = |(rules, line): (&LineRules, &[u8])| {
         line.ends_with(b"\r\n") && rules.iter().zip(line.split(|&byte| byte == b',')).all(bare)
     };
-    let rules = all_lines(a, d, rates);
-    lines.clone().count() == rules.len() && rules.into_iter().zip(lines).all(bare_line)
+    lines.clone().count() == rules.len() && rules.iter().zip(lines).all(bare_line)
 }
 
 /// Spellings that are no count, or count something else than they seem to.
@@ -247,7 +248,7 @@ impl Rule {
     pub fn refused(self) -> [&'static str; 2] {
         match self {
             Rule::Text(..) => [LONG, "\x01"],
-            Rule::Year => ["13", "1999"],
+            Rule::Year => ["13", "1991"],
             Rule::Total => ["+1", "0"],
             Rule::Analogs => ["1a", "97A"],
             Rule::Statuses => ["1d", "257D"],
@@ -277,7 +278,8 @@ impl Rule {
             Rule::Text(least, most) => texts(least, most),
             Rule::Year => spelled(&[
                 "2013", "1991", "1999", "2012", "2014", "0000", "9999", "", "    ", " 201", "201", "02013", "2013 ",
-                " 2013", "20I3", "+201", "-201", "13", "201x", "x013",
+                " 2013", "20I3", "+201", "-201", "13", "201x", "x013", "1998", "2000", "199", "1999 ", " 1999",
+                "01999", "19999", "99", "9199", "1299", "2019", "1913",
             ]),
             Rule::Total => counts(6, 1, 352, ""),
             Rule::Analogs => lettered("A", 96),

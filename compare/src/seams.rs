@@ -24,8 +24,10 @@ const ENDS: [&[u8]; 11] = [
 
 /// All cases, in an order that stays.
 pub fn walk(walk: &mut Walk) {
-    rows_in_eights(walk);
-    missing_in_eights(walk);
+    for edition in [2013, 1999] {
+        rows_in_eights(walk, edition);
+        missing_in_eights(walk, edition);
+    }
     lines_in_eights(walk);
     statuses_in_fours(walk);
     many_statuses(walk);
@@ -71,8 +73,8 @@ fn damaged_in_full(walk: &mut Walk, layout: Layout, file: &[u8], places: RangeIn
 }
 
 /// Faults at every byte of a row of three times eight bytes and a tail of 0 to 7; of 7 in each of three rows and asked in every way.
-fn rows_in_eights(walk: &mut Walk) {
-    let layout = Layout::new(3, 2, 3, 0);
+fn rows_in_eights(walk: &mut Walk, edition: u32) {
+    let layout = Layout::of(3, 2, 3, (0, edition));
     let plain = Recording::plain(layout).lines();
     for (length, row) in (24..31).map(|length| (length, length % 3)).chain([(31, 0), (31, 1), (31, 2)]) {
         let mut lines = plain.clone();
@@ -84,8 +86,8 @@ fn rows_in_eights(walk: &mut Walk) {
 }
 
 /// Faults at every byte of a row with missing samples, alone and two together, which is longer by 0 to 7 bytes.
-fn missing_in_eights(walk: &mut Walk) {
-    let layout = Layout::new(6, 2, 3, 0);
+fn missing_in_eights(walk: &mut Walk, edition: u32) {
+    let layout = Layout::of(6, 2, 3, (0, edition));
     let missing = [1, 3, 4, 6];
     let plain = Recording::plain(layout).without(0, missing).without(1, missing).without(2, missing).lines();
     for more in 0..8 {

@@ -6,29 +6,39 @@ use crate::damage::Damage;
 use crate::files::{text, Recording};
 use crate::walk::Walk;
 
-/// A field of a text: its row, counted from 0, its most characters, and digits that begin with those of a right number.
+/// A field of a text: its row, counted from 0, its most characters, digits that begin with those of a right number, and numbers at its edges.
 struct Place {
     layout: Layout,
     row: usize,
     field: usize,
     most: usize,
     digits: &'static str,
+    edges: &'static [&'static str],
 }
 
-/// A number in each row, a time, a sample with others behind it, and one that ends its row and the file.
-const PLACES: [Place; 5] = [
-    Place { layout: Layout::new(1, 1, 2, 0), row: 0, field: 0, most: 10, digits: "12345678901" },
-    Place { layout: Layout::new(1, 1, 2, 0), row: 1, field: 0, most: 10, digits: "23456789012" },
-    Place { layout: Layout::new(1, 1, 2, 0), row: 0, field: 1, most: 13, digits: "12345678901234" },
-    Place { layout: Layout::new(2, 1, 2, 0), row: 0, field: 2, most: 13, digits: "12345678901234" },
-    Place { layout: Layout::new(2, 0, 2, 0), row: 1, field: 3, most: 13, digits: "12345678901234" },
+/// A number in each row, a time, a sample with others behind it, and one that ends its row and the file; two samples of 1999 in the same places.
+#[rustfmt::skip]
+const PLACES: [Place; 7] = [
+    Place { layout: Layout::new(1, 1, 2, 0), row: 0, field: 0, most: 10, digits: "12345678901", edges: EDGES },
+    Place { layout: Layout::new(1, 1, 2, 0), row: 1, field: 0, most: 10, digits: "23456789012", edges: EDGES },
+    Place { layout: Layout::new(1, 1, 2, 0), row: 0, field: 1, most: 13, digits: "12345678901234", edges: EDGES },
+    Place { layout: Layout::new(2, 1, 2, 0), row: 0, field: 2, most: 13, digits: "12345678901234", edges: EDGES },
+    Place { layout: Layout::new(2, 0, 2, 0), row: 1, field: 3, most: 13, digits: "12345678901234", edges: EDGES },
+    Place { layout: Layout::of(2, 1, 2, (0, 1999)), row: 0, field: 2, most: 13, digits: "99999999999999", edges: EDGES_OF_1999 },
+    Place { layout: Layout::of(2, 0, 2, (0, 1999)), row: 1, field: 3, most: 13, digits: "12345678901234", edges: EDGES_OF_1999 },
 ];
 
 /// Numbers at the edges of a sample and of a time.
 #[rustfmt::skip]
-const EDGES: [&str; 14] = [
+const EDGES: &[&str] = &[
     "2147483647", "2147483648", "+2147483647", "+2147483648", "-2147483647", "-2147483648", "-2147483649",
     "4294967294", "4294967295", "4294967296", "+4294967295", "-4294967295", "4294967297", "9999999999",
+];
+
+/// Numbers at the edges of a sample of 1999.
+#[rustfmt::skip]
+const EDGES_OF_1999: &[&str] = &[
+    "99998", "99999", "100000", "+99998", "+99999", "+100000", "-99998", "-99999", "-100000", "32767", "32768", "-32768",
 ];
 
 /// Numbers that get a sign, a space or a zero somewhere.
@@ -40,7 +50,7 @@ pub fn walk(walk: &mut Walk) {
         let longest = place.most + 1;
         let mut list = patterns(longest, place.digits);
         list.extend(strings(4));
-        list.extend(behind_spaces_and_zeros(longest));
+        list.extend(behind_spaces_and_zeros(place.edges, longest));
         list.extend(disturbed());
         list.sort();
         list.dedup();
@@ -84,10 +94,10 @@ fn strings(most: usize) -> Vec<String> {
 }
 
 /// Each edge behind spaces and, after its sign, zeros: all of at most so many characters.
-fn behind_spaces_and_zeros(most: usize) -> Vec<String> {
+fn behind_spaces_and_zeros(edges: &[&str], most: usize) -> Vec<String> {
     let mut list = Vec::new();
-    for edge in EDGES {
-        let (sign, digits) = edge.split_at(edge.len() - 10);
+    for edge in edges {
+        let (sign, digits) = edge.split_at(usize::from(edge.starts_with(['+', '-'])));
         for spaces in 0..=most - edge.len() {
             for zeros in 0..=most - edge.len() - spaces {
                 list.push(format!("{:spaces$}{sign}{:0<zeros$}{digits}", "", ""));

@@ -5,8 +5,8 @@ use crate::draft::MOST_BYTES;
 use crate::walk::Family;
 use second::Answer;
 
-/// What is counted of a call: 0 for yes, 1 to 17 for no, `LONG_RESULT` and `YES_MISSING`.
-const COUNTED: usize = 20;
+/// What is counted of a call: 0 for yes, 1 to 17 for no, and the sorts of these that follow.
+const COUNTED: usize = 23;
 
 /// The refusal 1 of a configuration that would be too long as it is written: the one that was read is not.
 const LONG_RESULT: usize = 18;
@@ -14,33 +14,56 @@ const LONG_RESULT: usize = 18;
 /// A "yes" to a row or a file with a missing sample.
 const YES_MISSING: usize = 19;
 
-/// The calls that can meet one.
-const MEET_MISSING: [&str; 5] = ["check", "row", "write_row", "length", "change"];
+/// The same of a text of 1999, where the number 99999 means it.
+const YES_NINES: usize = 20;
 
-/// Counts of answers by call and number, the random cases apart from the others.
+/// The refusal 10 where a kind is one that the edition lacks.
+const LACKING: usize = 21;
+
+/// The refusal 10 of an edition that there is not.
+const NO_EDITION: usize = 22;
+
+/// The calls that take a layout, and so can meet a missing sample.
+const WITH_LAYOUT: [&str; 5] = ["check", "row", "write_row", "length", "change"];
+
+/// Counts of answers by call and number: the random cases apart from the others, and in each those of 1999.
 #[derive(Default, Clone)]
-pub struct Tally([[[u64; COUNTED]; CALLS.len()]; 2]);
+pub struct Tally([[[[u64; COUNTED]; CALLS.len()]; 2]; 2]);
 
 /// The random cases are counted apart.
 fn part(family: Family) -> usize {
     usize::from(family == Family::Random)
 }
 
+/// Whether a kind of the case is one that its edition, that of 1999, lacks.
+fn lacks_a_kind(case: &Case) -> bool {
+    case.is_of_1999() && (case.new_kind() == Some(2) || case.layout().is_some_and(|layout| layout.kind == 2))
+}
+
 /// What an answer to a case is counted as.
 fn counted_as(case: &Case, answer: Answer, missing: bool) -> usize {
-    match case {
+    let layout = case.layout();
+    match (answer.number, case) {
+        _ if missing && case.is_of_1999() && layout.is_some_and(|layout| layout.kind == 0) => YES_NINES,
         _ if missing => YES_MISSING,
-        Case::WriteConfig { cfg, .. } if answer.number == 1 && cfg.len() <= MOST_BYTES => LONG_RESULT,
-        _ => answer.number as usize,
+        (1, Case::WriteConfig { cfg, .. }) if cfg.len() <= MOST_BYTES => LONG_RESULT,
+        (10, _) if lacks_a_kind(case) => LACKING,
+        (10, _) if layout.is_some_and(|layout| !matches!(layout.edition, 2013 | 1999)) => NO_EDITION,
+        (number, _) => number as usize,
     }
 }
 
-/// Whether a call can give what is counted so.
-fn can(call: usize, counted: usize) -> bool {
+/// Whether a call can give what is counted so, asked about a recording of 1999 or about another.
+fn can(of_1999: bool, call: usize, counted: usize) -> bool {
     match counted {
+        _ if of_1999 && CALLS[call] == "reason" => false,
+        8 if of_1999 => false,
         0 => true,
         LONG_RESULT => CALLS[call] == "write_config",
-        YES_MISSING => MEET_MISSING.contains(&CALLS[call]),
+        YES_MISSING => WITH_LAYOUT.contains(&CALLS[call]),
+        YES_NINES => of_1999 && WITH_LAYOUT.contains(&CALLS[call]),
+        LACKING => of_1999 && POSSIBLE[call].contains(&10),
+        NO_EDITION => !of_1999 && WITH_LAYOUT.contains(&CALLS[call]),
         number => POSSIBLE[call].contains(&(number as u32)),
     }
 }
@@ -51,6 +74,9 @@ fn name(counted: usize) -> String {
         0 => String::from("yes"),
         LONG_RESULT => String::from("no 1 result"),
         YES_MISSING => String::from("yes missing"),
+        YES_NINES => String::from("yes 99999"),
+        LACKING => String::from("no 10 kind"),
+        NO_EDITION => String::from("no 10 edition"),
         number => format!("no {number}"),
     }
 }
@@ -58,13 +84,14 @@ fn name(counted: usize) -> String {
 impl Tally {
     /// Counts an answer; whether it is a "yes" to a row or a file with a missing sample is told beside it.
     pub fn count(&mut self, family: Family, case: &Case, answer: Answer, missing: bool) {
-        self.0[part(family)][case.call()][counted_as(case, answer, missing)] += 1;
+        let edition = usize::from(case.is_of_1999());
+        self.0[part(family)][edition][case.call()][counted_as(case, answer, missing)] += 1;
     }
 
     /// Adds what another thread counted.
     pub fn add(&mut self, other: &Tally) {
-        let mine = self.0.as_flattened_mut().as_flattened_mut();
-        for (mine, theirs) in mine.iter_mut().zip(other.0.as_flattened().as_flattened()) {
+        let mine = self.0.as_flattened_mut().as_flattened_mut().as_flattened_mut();
+        for (mine, theirs) in mine.iter_mut().zip(other.0.as_flattened().as_flattened().as_flattened()) {
             *mine += theirs;
         }
     }
@@ -72,31 +99,41 @@ impl Tally {
     /// Answers that a call can give and that no case got.
     pub fn never_given(&self) -> Vec<String> {
         let mut list = Vec::new();
-        for (call, call_name) in CALLS.iter().enumerate() {
-            for counted in (0..COUNTED).filter(|&counted| can(call, counted)) {
-                if self.0.iter().all(|part| part[call][counted] == 0) {
-                    list.push(format!("{call_name} never answered {}", name(counted)));
+        for of_1999 in [false, true] {
+            for (call, call_name) in CALLS.iter().enumerate() {
+                for counted in (0..COUNTED).filter(|&counted| can(of_1999, call, counted)) {
+                    if self.0.iter().all(|part| part[usize::from(of_1999)][call][counted] == 0) {
+                        let about = if of_1999 { ", asked about 1999" } else { "" };
+                        list.push(format!("{call_name} never answered {}{about}", name(counted)));
+                    }
                 }
             }
         }
         list
     }
 
+    /// All tables.
+    pub fn tables(&self) -> String {
+        let about = [(false, false), (false, true), (true, false), (true, true)];
+        about.map(|(random, of_1999)| self.table(random, of_1999)).join("\n\n")
+    }
+
     /// A table: a line for each answer, a column for each call.
-    pub fn table(&self, random: bool) -> String {
-        let part = &self.0[usize::from(random)];
-        let mut text = String::from(if random { "random     " } else { "kept, syst." });
+    fn table(&self, random: bool, of_1999: bool) -> String {
+        let part = &self.0[usize::from(random)][usize::from(of_1999)];
+        let cases = if random { "random" } else { "kept, syst." };
+        let mut text = format!("{:16}", if of_1999 { format!("{cases} 1999") } else { String::from(cases) });
         for call_name in CALLS {
             text.push_str(&format!("{call_name:>13}"));
         }
         for counted in 0..COUNTED {
-            text.push_str(&format!("\n{:11}", name(counted)));
+            text.push_str(&format!("\n{:16}", name(counted)));
             for (call, counts) in part.iter().enumerate() {
-                let word = if can(call, counted) { counts[counted].to_string() } else { String::from("-") };
+                let word = if can(of_1999, call, counted) { counts[counted].to_string() } else { String::from("-") };
                 text.push_str(&format!("{word:>13}"));
             }
         }
-        text.push_str("\nall        ");
+        text.push_str("\nall             ");
         for counts in part {
             text.push_str(&format!("{:>13}", counts.iter().sum::<u64>()));
         }

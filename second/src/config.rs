@@ -1,6 +1,7 @@
 //! A configuration, line by line.
 
-use crate::data::{Kind, Layout, MOST_A, MOST_D, MOST_ROWS};
+use crate::data::{Kind, Layout, MOST_A, MOST_D, MOST_ROWS, NONE};
+use crate::edition::Edition;
 use crate::numbers::{self, Real};
 use crate::{no, yes, Answer, MOST_BYTES};
 use std::cmp::Ordering;
@@ -9,7 +10,7 @@ use std::cmp::Ordering;
 const MOST_RATES: usize = 8;
 
 /// The places in which an accepted configuration is shown.
-const PLACES: usize = 34;
+const PLACES: usize = 35;
 
 /// A date and time, Gregorian, to the nanosecond.
 pub struct Moment {
@@ -22,17 +23,22 @@ pub struct Moment {
     nanosecond: i64,
 }
 
-/// What an accepted configuration shows.
+/// The two lines that follow the time multiplier in 2013: both codes, quality and leap second code.
+pub struct LastLines {
+    code: i64,
+    local: Option<i64>,
+    quality: i64,
+    leap: i64,
+}
+
+/// What an accepted configuration shows; the last lines are absent in 1999.
 pub struct Config {
     pub layout: Layout,
     rates: i64,
     pub last_rows: Vec<i64>,
     first: Moment,
     trigger: Moment,
-    code: i64,
-    local: Option<i64>,
-    quality: i64,
-    leap: i64,
+    pub last_lines: Option<LastLines>,
 }
 
 /// One field of a line, with its place; lines and fields count from 1.
@@ -200,7 +206,7 @@ pub fn read(cfg: &[u8]) -> Result<Config, Answer> {
         return Err(no(1, 0, 0));
     }
     let mut lines = Lines { cfg, start: 0, taken: 0 };
-    station(&lines.next(3)?)?;
+    let edition = station(&lines.next(3)?)?;
     let (a, d) = channels(&lines.next(3)?)?;
     for index in 1..=a {
         analog(&lines.next(13)?, index)?;
@@ -212,28 +218,21 @@ pub fn read(cfg: &[u8]) -> Result<Config, Answer> {
     let (rates, last_rows) = sampling(&mut lines)?;
     let first = moment(&lines.next(2)?)?;
     let trigger = moment(&lines.next(2)?)?;
-    let kind = kind(&lines.next(1)?)?;
-    multiplier(&lines.next(1)?)?;
-    let (code, local) = codes(&lines.next(2)?)?;
-    let (quality, leap) = quality(&lines.last(2)?)?;
+    let kind = kind(&lines.next(1)?, edition)?;
+    let last_lines = last_lines(&mut lines, edition)?;
     lines.end()?;
     let rows = last_rows[last_rows.len() - 1] as u32;
-    let layout = Layout { a: a as usize, d: d as usize, rows, kind };
-    Ok(Config { layout, rates, last_rows, first, trigger, code, local, quality, leap })
+    let layout = Layout { a: a as usize, d: d as usize, rows, kind, edition };
+    Ok(Config { layout, rates, last_rows, first, trigger, last_lines })
 }
 
-/// Station (0 to 64 characters), device (0 to 64), year (four digits, 2013).
-fn station(line: &Line) -> Result<(), Answer> {
+/// Station (0 to 64 characters), device (0 to 64), year (four digits, 2013 or 1999).
+fn station(line: &Line) -> Result<Edition, Answer> {
     line.field(1).text(0, 64)?;
     line.field(2).text(0, 64)?;
-    let year = line.field(3);
-    if year.bytes.len() != 4 || !year.bytes.iter().all(u8::is_ascii_digit) {
-        return Err(year.no(5));
-    }
-    if year.bytes != b"2013" {
-        return Err(year.no(8));
-    }
-    Ok(())
+    let field = line.field(3);
+    let year = numbers::year(field.bytes).ok_or(field.no(5))?;
+    Edition::of(year).ok_or(field.no(8))
 }
 
 /// TT (1 to 6 digits), A followed by "A", D followed by "D"; TT is A + D.
@@ -319,16 +318,28 @@ fn moment(line: &Line) -> Result<Moment, Answer> {
     Ok(Moment { year, month, day, hour, minute, second, nanosecond })
 }
 
-/// Kind word, 5 to 8 characters, any case; any other 5 to 8 characters are 6.
-fn kind(line: &Line) -> Result<Kind, Answer> {
+/// Kind word, 5 to 8 characters, any case; any other 5 to 8 characters, and a kind that the edition lacks, are 6.
+fn kind(line: &Line, edition: Edition) -> Result<Kind, Answer> {
     let field = line.field(1);
     field.text(5, 8)?;
     for kind in [Kind::Ascii, Kind::Binary, Kind::Binary32] {
-        if field.bytes.eq_ignore_ascii_case(kind.word().as_bytes()) {
+        if edition.has(kind) && field.bytes.eq_ignore_ascii_case(kind.word().as_bytes()) {
             return Ok(kind);
         }
     }
     Err(field.no(6))
+}
+
+/// The time multiplier, with which a configuration of 1999 ends; in 2013 two lines follow it.
+fn last_lines(lines: &mut Lines, edition: Edition) -> Result<Option<LastLines>, Answer> {
+    if edition == Edition::Year1999 {
+        multiplier(&lines.last(1)?)?;
+        return Ok(None);
+    }
+    multiplier(&lines.next(1)?)?;
+    let (code, local) = codes(&lines.next(2)?)?;
+    let (quality, leap) = quality(&lines.last(2)?)?;
+    Ok(Some(LastLines { code, local, quality, leap }))
 }
 
 /// Time multiplier, a real above zero, 1 to 32 characters.
@@ -380,8 +391,15 @@ fn pre_trigger(first: &Moment, trigger: &Moment) -> [i64; 2] {
     }
 }
 
+impl LastLines {
+    /// Time code, whether the local code is x, local code, quality, leap code.
+    fn show(&self) -> [i64; 5] {
+        [self.code, i64::from(self.local.is_none()), self.local.unwrap_or(0), self.quality, self.leap]
+    }
+}
+
 impl Config {
-    /// A, D, the rates and last rows, both dates and times, the pre-trigger time, the kind, both codes, quality and leap code.
+    /// A, D, the rates and last rows, both dates and times, the pre-trigger time, the kind, what the last lines show, the year of the edition.
     fn show(&self) -> [i64; PLACES] {
         let mut places = [0; PLACES];
         places[0] = self.layout.a as i64;
@@ -395,16 +413,13 @@ impl Config {
         places[19..26].copy_from_slice(&self.trigger.show());
         places[26..28].copy_from_slice(&pre_trigger(&self.first, &self.trigger));
         places[28] = i64::from(self.layout.kind.number());
-        places[29] = self.code;
-        places[30] = i64::from(self.local.is_none());
-        places[31] = self.local.unwrap_or(0);
-        places[32] = self.quality;
-        places[33] = self.leap;
+        places[29..34].copy_from_slice(&self.last_lines.as_ref().map_or([NONE; 5], LastLines::show));
+        places[34] = i64::from(self.layout.edition.year());
         places
     }
 }
 
-/// Checks a configuration and shows it in 34 places; fewer places are 17, last of all.
+/// Checks a configuration and shows it in 35 places; fewer places are 17, last of all.
 pub fn config(cfg: &[u8], shown: &mut [i64]) -> Answer {
     match read(cfg) {
         Err(answer) => answer,

@@ -1,5 +1,6 @@
 //! Data rows of the three kinds: checked, shown and written.
 
+use crate::edition::Edition;
 use crate::numbers;
 use crate::{no, put, yes, Answer};
 use std::fmt::{self, Display, Formatter};
@@ -16,8 +17,11 @@ pub const MOST_ROWS: i64 = 1_000_000;
 /// The most bytes of a text row before its line end.
 const MOST_TEXT: usize = 1_880;
 
-/// The place of a missing sample, where a row is shown or given as numbers of 64 bits.
+/// The place of what there is none of, among numbers of 64 bits: of a missing sample in a row, of a line that the edition lacks in a configuration.
 pub const NONE: i64 = i64::MIN;
+
+/// The number that means a missing sample in a text of 1999.
+const MARK: i64 = 99_999;
 
 /// The mark at the end of a text file.
 pub const END_MARK: [u8; 3] = [0x1A, 0x0D, 0x0A];
@@ -66,14 +70,6 @@ impl Kind {
             Kind::Ascii | Kind::Binary32 => 4,
         }
     }
-
-    /// Whether a number lies from the lowest sample to the highest of the kind; ASCII has the range of binary32.
-    fn holds(self, number: i64) -> bool {
-        match self {
-            Kind::Binary => (-32_767..=32_767).contains(&number),
-            Kind::Ascii | Kind::Binary32 => (-2_147_483_647..=2_147_483_647).contains(&number),
-        }
-    }
 }
 
 /// What a row has for an analog channel: a number, or nothing.
@@ -84,17 +80,17 @@ pub enum Sample {
 }
 
 impl Sample {
-    /// A number that is a sample of the kind.
-    fn of_number(number: i64, kind: Kind) -> Option<Sample> {
-        kind.holds(number).then_some(Sample::Is(number as i32))
+    /// A number that is a sample of the layout.
+    fn of_number(number: i64, layout: &Layout) -> Option<Sample> {
+        layout.holds(number).then_some(Sample::Is(number as i32))
     }
 
-    /// What a place says that is given for a sample of the kind.
-    fn of_place(place: i64, kind: Kind) -> Option<Sample> {
+    /// What a place says that is given for a sample of the layout.
+    fn of_place(place: i64, layout: &Layout) -> Option<Sample> {
         if place == NONE {
             return Some(Sample::Missing);
         }
-        Sample::of_number(place, kind)
+        Sample::of_number(place, layout)
     }
 
     /// The place that shows it.
@@ -105,10 +101,10 @@ impl Sample {
         }
     }
 
-    /// Whether it can be written in the kind: a missing sample in every kind.
-    fn fits(self, kind: Kind) -> bool {
+    /// Whether it can be written by the layout: a missing sample in every kind.
+    fn fits(self, layout: &Layout) -> bool {
         match self {
-            Sample::Is(number) => kind.holds(i64::from(number)),
+            Sample::Is(number) => layout.holds(i64::from(number)),
             Sample::Missing => true,
         }
     }
@@ -143,7 +139,7 @@ impl Row {
         row.time = u32::try_from(places[0]).or(Err(2u32))?;
         let (samples, statuses) = places[1..layout.places()].split_at(layout.a);
         for (field, (sample, &place)) in (3u32..).zip(row.samples.iter_mut().zip(samples)) {
-            *sample = Sample::of_place(place, layout.kind).ok_or(field)?;
+            *sample = Sample::of_place(place, layout).ok_or(field)?;
         }
         for (field, (status, &place)) in (3 + layout.a as u32..).zip(row.statuses.iter_mut().zip(statuses)) {
             *status = match place {
@@ -163,33 +159,56 @@ impl Row {
         places
     }
 
-    /// The field of the first sample that does not fit a kind.
-    pub fn misfit(&self, kind: Kind) -> Option<u32> {
-        let place = self.samples.iter().position(|sample| !sample.fits(kind))?;
+    /// The field of the first sample that does not fit a layout.
+    pub fn misfit(&self, layout: &Layout) -> Option<u32> {
+        let place = self.samples.iter().position(|sample| !sample.fits(layout))?;
         Some(3 + place as u32)
     }
 }
 
-/// A layout is A, D, the number of rows and the kind.
+/// The numbers of a layout as they are given to a call, out of the sizes too.
+#[derive(Debug, Clone, Copy, PartialEq, Eq)]
+pub struct LayoutNumbers {
+    pub a: u32,
+    pub d: u32,
+    pub rows: u32,
+    pub kind: u32,
+    pub edition: u32,
+}
+
+/// A layout is A, D, the number of rows, the kind and the edition.
 #[derive(Debug, Clone, Copy)]
 pub struct Layout {
     pub a: usize,
     pub d: usize,
     pub rows: u32,
     pub kind: Kind,
+    pub edition: Edition,
 }
 
 impl Layout {
-    /// A layout out of the sizes, or no such kind, is 10.
-    pub fn new(a: u32, d: u32, rows: u32, kind: u32) -> Result<Layout, Answer> {
-        let kind = Kind::of(kind).ok_or(no(10, 0, 0))?;
+    /// A layout out of the sizes, no such kind, no such edition, or a kind that the edition lacks, is 10.
+    pub fn new(numbers: LayoutNumbers) -> Result<Layout, Answer> {
+        let LayoutNumbers { a, d, rows, kind, edition } = numbers;
+        let edition = Edition::of(edition).ok_or(no(10, 0, 0))?;
+        let kind = Kind::of(kind).filter(|&kind| edition.has(kind)).ok_or(no(10, 0, 0))?;
         let (wide_a, wide_d) = (i64::from(a), i64::from(d));
         let sizes =
             wide_a <= MOST_A && wide_d <= MOST_D && wide_a + wide_d >= 1 && (1..=MOST_ROWS).contains(&i64::from(rows));
         if !sizes {
             return Err(no(10, 0, 0));
         }
-        Ok(Layout { a: a as usize, d: d as usize, rows, kind })
+        Ok(Layout { a: a as usize, d: d as usize, rows, kind, edition })
+    }
+
+    /// Whether a number lies from the lowest sample to the highest; a text of 2013 has the range of binary32.
+    fn holds(&self, number: i64) -> bool {
+        let range = match (self.kind, self.edition) {
+            (Kind::Ascii, Edition::Year1999) => -99_999..=99_998,
+            (Kind::Binary, _) => -32_767..=32_767,
+            (Kind::Ascii, Edition::Year2013) | (Kind::Binary32, _) => -2_147_483_647..=2_147_483_647,
+        };
+        range.contains(&number)
     }
 
     /// Places of a row in memory: time, A samples, D statuses.
@@ -320,7 +339,7 @@ fn text_place(layout: &Layout, place: usize, bytes: &[u8], row: &mut Row) -> Opt
     if place == 0 {
         row.time = u32::try_from(numbers::count(bytes, 13)?).ok()?;
     } else if place <= layout.a {
-        row.samples[place - 1] = text_sample(bytes)?;
+        row.samples[place - 1] = text_sample(layout, bytes)?;
     } else {
         row.statuses[place - 1 - layout.a] = match bytes {
             b"0" => false,
@@ -331,19 +350,23 @@ fn text_place(layout: &Layout, place: usize, bytes: &[u8], row: &mut Row) -> Opt
     Some(())
 }
 
-/// A sample of a text: an empty field is a missing one, and one of spaces alone is none.
-fn text_sample(bytes: &[u8]) -> Option<Sample> {
-    if bytes.is_empty() {
-        return Some(Sample::Missing);
+/// A sample of a text. In 2013 an empty field is a missing one, in 1999 a number worth 99999, however it is written; a field of spaces alone is none in either.
+fn text_sample(layout: &Layout, bytes: &[u8]) -> Option<Sample> {
+    match layout.edition {
+        Edition::Year2013 if bytes.is_empty() => Some(Sample::Missing),
+        Edition::Year2013 => Sample::of_number(numbers::sample(bytes, 13)?, layout),
+        Edition::Year1999 => match numbers::sample(bytes, 13)? {
+            MARK => Some(Sample::Missing),
+            number => Sample::of_number(number, layout),
+        },
     }
-    Sample::of_number(numbers::sample(bytes, 13)?, Kind::Ascii)
 }
 
-/// Adds a row that fits the kind to `bytes`.
-pub fn put_row(kind: Kind, n: u32, row: &Row, bytes: &mut Vec<u8>) {
-    match kind {
-        Kind::Ascii => put_text(n, row, bytes),
-        Kind::Binary | Kind::Binary32 => put_binary(kind.width(), n, row, bytes),
+/// Adds a row that fits the layout to `bytes`.
+pub fn put_row(layout: &Layout, n: u32, row: &Row, bytes: &mut Vec<u8>) {
+    match layout.kind {
+        Kind::Ascii => put_text(layout.edition, n, row, bytes),
+        Kind::Binary | Kind::Binary32 => put_binary(layout.kind.width(), n, row, bytes),
     }
 }
 
@@ -366,16 +389,17 @@ fn put_binary(width: usize, n: u32, row: &Row, bytes: &mut Vec<u8>) {
     }
 }
 
-/// The plain written form: no spaces, no plus, no needless zeros, zero as 0, nothing for a missing sample; the row ends with CR LF.
-fn put_text(n: u32, row: &Row, bytes: &mut Vec<u8>) {
+/// The plain written form: no spaces, no plus, no needless zeros, zero as 0; for a missing sample nothing in 2013, 99999 in 1999. The row ends with CR LF.
+fn put_text(edition: Edition, n: u32, row: &Row, bytes: &mut Vec<u8>) {
     put_number(i64::from(n), bytes);
     bytes.push(b',');
     put_number(i64::from(row.time), bytes);
     for sample in &row.samples {
         bytes.push(b',');
-        match sample {
-            Sample::Is(number) => put_number(i64::from(*number), bytes),
-            Sample::Missing => (),
+        match (sample, edition) {
+            (Sample::Is(number), _) => put_number(i64::from(*number), bytes),
+            (Sample::Missing, Edition::Year2013) => (),
+            (Sample::Missing, Edition::Year1999) => put_number(MARK, bytes),
         }
     }
     for &status in &row.statuses {
@@ -402,8 +426,8 @@ fn put_number(number: i64, bytes: &mut Vec<u8>) {
 }
 
 /// Checks a data file against its layout: 10, then the file.
-pub fn check(a: u32, d: u32, rows: u32, kind: u32, data: &[u8]) -> Answer {
-    let checked = Layout::new(a, d, rows, kind).and_then(|layout| walk(&layout, data, |_, _| ()));
+pub fn check(layout: LayoutNumbers, data: &[u8]) -> Answer {
+    let checked = Layout::new(layout).and_then(|layout| walk(&layout, data, |_, _| ()));
     match checked {
         Ok(()) => yes(0),
         Err(answer) => answer,
@@ -411,8 +435,8 @@ pub fn check(a: u32, d: u32, rows: u32, kind: u32, data: &[u8]) -> Answer {
 }
 
 /// Shows row n: 10, 15, then the file, and 17 last of all.
-pub fn row(a: u32, d: u32, rows: u32, kind: u32, data: &[u8], n: u32, shown: &mut [i64]) -> Answer {
-    match find_row(a, d, rows, kind, data, n) {
+pub fn row(layout: LayoutNumbers, data: &[u8], n: u32, shown: &mut [i64]) -> Answer {
+    match Layout::new(layout).and_then(|layout| find_row(&layout, data, n)) {
         Err(answer) => answer,
         Ok(found) if shown.len() < found.len() => no(17, 0, 0),
         Ok(found) => {
@@ -423,11 +447,10 @@ pub fn row(a: u32, d: u32, rows: u32, kind: u32, data: &[u8], n: u32, shown: &mu
 }
 
 /// Row n of a file that passes its check.
-fn find_row(a: u32, d: u32, rows: u32, kind: u32, data: &[u8], n: u32) -> Result<Vec<i64>, Answer> {
-    let layout = Layout::new(a, d, rows, kind)?;
+fn find_row(layout: &Layout, data: &[u8], n: u32) -> Result<Vec<i64>, Answer> {
     layout.has_row(n)?;
     let mut found = Vec::new();
-    walk(&layout, data, |number, row| {
+    walk(layout, data, |number, row| {
         if number == n {
             found = row.places();
         }
@@ -436,19 +459,18 @@ fn find_row(a: u32, d: u32, rows: u32, kind: u32, data: &[u8], n: u32) -> Result
 }
 
 /// Writing one row: 10, 15, 16, 17; no end mark is added.
-pub fn write_row(a: u32, d: u32, rows: u32, kind: u32, n: u32, row: &[i64], out: &mut [u8]) -> Answer {
-    put(row_bytes(a, d, rows, kind, n, row), out)
+pub fn write_row(layout: LayoutNumbers, n: u32, row: &[i64], out: &mut [u8]) -> Answer {
+    put(Layout::new(layout).and_then(|layout| row_bytes(&layout, n, row)), out)
 }
 
-/// The bytes of row n: 10 for the layout or a row with too few places, then 15, then 16 at the first field that does not fit.
-fn row_bytes(a: u32, d: u32, rows: u32, kind: u32, n: u32, row: &[i64]) -> Result<Vec<u8>, Answer> {
-    let layout = Layout::new(a, d, rows, kind)?;
+/// The bytes of row n: 10 for too few places, then 15, then 16 at the first field that does not fit.
+fn row_bytes(layout: &Layout, n: u32, row: &[i64]) -> Result<Vec<u8>, Answer> {
     if row.len() < layout.places() {
         return Err(no(10, 0, 0));
     }
     layout.has_row(n)?;
-    let row = Row::of_places(&layout, row).map_err(|field| no(16, n, field))?;
+    let row = Row::of_places(layout, row).map_err(|field| no(16, n, field))?;
     let mut bytes = Vec::new();
-    put_row(layout.kind, n, &row, &mut bytes);
+    put_row(layout, n, &row, &mut bytes);
     Ok(bytes)
 }

@@ -1,10 +1,11 @@
-//! Recordings of the 2013 edition: a configuration and a data file of the kind ASCII, binary or binary32.
+//! Recordings of the editions 2013 and 1999: a configuration and a data file of the kind ASCII, binary or binary32.
 //! The calls check them, show rows, write rows, change a data file from one kind to another and write the configuration for it.
 #![forbid(unsafe_code)]
 
 mod change;
 mod config;
 mod data;
+mod edition;
 mod numbers;
 #[cfg(test)]
 mod tests;
@@ -12,7 +13,7 @@ mod write_config;
 
 pub use change::{change, length};
 pub use config::config;
-pub use data::{check, row, write_row, NONE};
+pub use data::{check, row, write_row, LayoutNumbers, NONE};
 pub use write_config::write_config;
 
 /// An answer: number 0 is "yes"; a "no" has its number and place, and length zero.

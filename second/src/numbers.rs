@@ -46,6 +46,14 @@ pub fn count(field: &[u8], most: usize) -> Option<i64> {
     digits(after_spaces(field))
 }
 
+/// A year of four digits.
+pub fn year(field: &[u8]) -> Option<u32> {
+    if field.len() != 4 {
+        return None;
+    }
+    digits(field).map(|year| year as u32)
+}
+
 /// A sample of 1 to `most` characters: leading spaces, which count for length, optional sign and digits.
 pub fn sample(field: &[u8], most: usize) -> Option<i64> {
     if field.len() > most {

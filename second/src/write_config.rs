@@ -31,8 +31,12 @@ fn forms(found: &Config) -> Vec<Form> {
     // Line frequency, number of rates, then each rate with its last row.
     forms.extend([Form::Bare(&[1]), Form::Bare(&[1])]);
     forms.extend(repeat_n(Form::Bare(&[1, 2]), found.last_rows.len()));
-    // Two dates, the kind, the time multiplier, both codes, quality and leap second code.
-    forms.extend([Form::Kept, Form::Kept, Form::Word, Form::Bare(&[1]), Form::Bare(&[1, 2]), Form::Kept]);
+    // Two dates, the kind, the time multiplier.
+    forms.extend([Form::Kept, Form::Kept, Form::Word, Form::Bare(&[1])]);
+    if found.last_lines.is_some() {
+        // Both codes; quality and leap second code.
+        forms.extend([Form::Bare(&[1, 2]), Form::Kept]);
+    }
     forms
 }
 
@@ -61,10 +65,10 @@ fn written(cfg: &[u8], found: &Config, kind: Kind) -> Vec<u8> {
     bytes
 }
 
-/// The reader's refusals, then 10 for no such kind, then 1 for a result too long.
+/// The reader's refusals, then 10 for no such kind or one that the edition lacks, then 1 for a result too long.
 fn plan(cfg: &[u8], kind: u32) -> Result<Vec<u8>, Answer> {
     let found = config::read(cfg)?;
-    let kind = Kind::of(kind).ok_or(no(10, 0, 0))?;
+    let kind = Kind::of(kind).filter(|&kind| found.layout.edition.has(kind)).ok_or(no(10, 0, 0))?;
     let bytes = written(cfg, &found, kind);
     if bytes.len() > MOST_BYTES {
         return Err(no(1, 0, 0));

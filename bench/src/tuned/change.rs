@@ -4,7 +4,7 @@ use super::binary::{self, four, row_size};
 use super::numbers::{sample_length, POWERS};
 use super::plain::{bare_length, Pen, END_MARK};
 use super::text::{self, Fields, Ignored};
-use super::{answer, no, Answer, Kind, Layout, MISSING};
+use super::{answer, no, Answer, Kind, Layout, LayoutNumbers, MISSING};
 
 /// A change that only room can refuse. A text file whose rows are as long as their plain form is plain already.
 struct Plan {
@@ -13,14 +13,14 @@ struct Plan {
 }
 
 /// The bytes needed: refuses as the change does, but never with 17.
-pub fn length(a: u32, d: u32, rows: u32, kind: u32, data: &[u8], new_kind: u32) -> Answer {
-    let length = both(a, d, rows, kind, new_kind).and_then(|(old, new)| plan(&old, &new, data));
+pub fn length(layout: LayoutNumbers, data: &[u8], new_kind: u32) -> Answer {
+    let length = both(layout, new_kind).and_then(|(old, new)| plan(&old, &new, data));
     answer(length.map(|plan| plan.length))
 }
 
 /// Changes a data file to another kind: 10, the file, 16, 17.
-pub fn change(a: u32, d: u32, rows: u32, kind: u32, data: &[u8], new_kind: u32, out: &mut [u8]) -> Answer {
-    answer(both(a, d, rows, kind, new_kind).and_then(|(old, new)| {
+pub fn change(layout: LayoutNumbers, data: &[u8], new_kind: u32, out: &mut [u8]) -> Answer {
+    answer(both(layout, new_kind).and_then(|(old, new)| {
         let plan = plan(&old, &new, data)?;
         let Some(out) = out.get_mut(..plan.length) else { return Err(no(17, 0, 0)) };
         write(&old, &new, &plan, data, out);
@@ -28,8 +28,9 @@ pub fn change(a: u32, d: u32, rows: u32, kind: u32, data: &[u8], new_kind: u32, 
     }))
 }
 
-fn both(a: u32, d: u32, rows: u32, kind: u32, new_kind: u32) -> Result<(Layout, Layout), Answer> {
-    Ok((Layout::new(a, d, rows, kind)?, Layout::new(a, d, rows, new_kind)?))
+/// The layouts of both files, which are of one edition.
+fn both(old: LayoutNumbers, new_kind: u32) -> Result<(Layout, Layout), Answer> {
+    Ok((Layout::new(old)?, Layout::new(LayoutNumbers { kind: new_kind, ..old })?))
 }
 
 /// The file's refusals, then 16; the length of the new file.
@@ -43,8 +44,8 @@ fn plan(old: &Layout, new: &Layout, data: &[u8]) -> Result<Plan, Answer> {
         (Kind::Text, Kind::Text) => return plan_text(old, data),
         (Kind::Text, Kind::Binary) => check_narrow_text(old, data)?,
         (Kind::Text, Kind::Binary32) => text::walk(old, data, &mut Ignored).map(|_| ())?,
-        (Kind::Binary, Kind::Text) => return plan_plain::<2>(old, data),
-        (Kind::Binary32, Kind::Text) => return plan_plain::<4>(old, data),
+        (Kind::Binary, Kind::Text) => return plan_plain::<2>(new, data),
+        (Kind::Binary32, Kind::Text) => return plan_plain::<4>(new, data),
         (Kind::Binary32, Kind::Binary) => check_narrow(old, data)?,
         (Kind::Binary32, Kind::Binary32) => binary::check::<4>(old, data)?,
         (Kind::Binary, _) => binary::check::<2>(old, data)?,
@@ -70,7 +71,7 @@ impl Fields for PlainLength<'_> {
     }
     #[inline(always)]
     fn sample(&mut self, sample: i32) {
-        self.length += sample_length(sample);
+        self.length += sample_length(sample, self.layout.missing_text().len());
     }
 }
 
@@ -82,23 +83,25 @@ fn plan_text(layout: &Layout, data: &[u8]) -> Result<Plan, Answer> {
 
 /// The length of a sample's plain form by comparisons alone, which the compiler makes for many samples at once.
 #[inline(always)]
-fn compared_length<const W: usize>(sample: i32) -> u32 {
+fn compared_length<const W: usize>(sample: i32, missing: u32) -> u32 {
     let distance = sample.unsigned_abs();
     let powers: &[u32] = if W == 2 { &POWERS[1..5] } else { &POWERS[1..] };
     let more: u32 = powers.iter().map(|&power| u32::from(distance >= power)).sum();
     let length = 1 + u32::from(sample < 0) + more;
     if sample == MISSING {
-        0
+        missing
     } else {
         length
     }
 }
 
+/// Binary rows that become a text of this layout.
 fn plan_plain<const W: usize>(layout: &Layout, data: &[u8]) -> Result<Plan, Answer> {
     let mut length = END_MARK.len();
+    let missing = layout.missing_text().len() as u32;
     binary::walk::<W>(layout, data, |n, row| {
         let samples = row[8..8 + layout.a * W].chunks_exact(W);
-        let lengths: u32 = samples.map(|bytes| compared_length::<W>(binary::sample::<W>(bytes))).sum();
+        let lengths: u32 = samples.map(|bytes| compared_length::<W>(binary::sample::<W>(bytes), missing)).sum();
         length += bare_length(layout, n, four(&row[4..])) + lengths as usize;
     })?;
     Ok(Plan { length, already_plain: false })
@@ -163,8 +166,8 @@ fn write(old: &Layout, new: &Layout, plan: &Plan, data: &[u8], out: &mut [u8]) {
         (Kind::Text, Kind::Text) => write_plain_text(old, data, out),
         (Kind::Text, Kind::Binary) => write_words::<2>(old, data, out),
         (Kind::Text, Kind::Binary32) => write_words::<4>(old, data, out),
-        (Kind::Binary, Kind::Text) => write_plain::<2>(old, data, out),
-        (Kind::Binary32, Kind::Text) => write_plain::<4>(old, data, out),
+        (Kind::Binary, Kind::Text) => write_plain::<2>(new, data, out),
+        (Kind::Binary32, Kind::Text) => write_plain::<4>(new, data, out),
         (Kind::Binary, Kind::Binary32) => write_width::<2, 4>(old, data, out),
         (Kind::Binary32, Kind::Binary) => write_width::<4, 2>(old, data, out),
         (Kind::Binary, Kind::Binary) | (Kind::Binary32, Kind::Binary32) => out.copy_from_slice(data),
@@ -186,9 +189,9 @@ fn write_width<const W: usize, const V: usize>(layout: &Layout, data: &[u8], out
     }
 }
 
-/// Binary rows as plain text.
+/// Binary rows as plain text of this layout.
 fn write_plain<const W: usize>(layout: &Layout, data: &[u8], out: &mut [u8]) {
-    let mut pen = Pen { out, at: 0 };
+    let mut pen = Pen::new(layout, out);
     for (n, row) in (1..).zip(data.chunks_exact(row_size::<W>(layout))) {
         pen.number(n);
         pen.time(four(&row[4..]));
@@ -231,7 +234,7 @@ impl Fields for PlainPen<'_> {
 
 /// A text file that passes, in its plain form.
 fn write_plain_text(layout: &Layout, data: &[u8], out: &mut [u8]) {
-    let mut plain = PlainPen { pen: Pen { out, at: 0 } };
+    let mut plain = PlainPen { pen: Pen::new(layout, out) };
     let walked = text::walk(layout, data, &mut plain);
     debug_assert!(walked.is_ok());
     plain.pen.bytes(b"\r\n");

@@ -1,11 +1,11 @@
 //! The configuration, line by line: each line is scanned once, its commas noted, then its fields are read from the
 //! left.
 
-use super::{answer, no, Answer};
+use super::{answer, no, Answer, NONE};
 use std::cmp::Ordering;
 
 /// Places in which a configuration is shown.
-pub const PLACES: usize = 34;
+pub const PLACES: usize = 35;
 
 /// The most bytes of a configuration.
 pub const MOST_BYTES: usize = 65_536;
@@ -277,7 +277,7 @@ impl Real {
     }
 }
 
-/// Reads a configuration and shows it; fewer than 34 places are 17, last of all.
+/// Reads a configuration and shows it; fewer than 35 places are 17, last of all.
 pub fn config(cfg: &[u8], shown: &mut [i64]) -> Answer {
     let mut places = [0; PLACES];
     answer(read(cfg, &mut places, &mut Ignored).and_then(|_| {
@@ -293,7 +293,7 @@ pub fn read<N: Notes>(cfg: &[u8], places: &mut [i64; PLACES], notes: &mut N) -> 
         return Err(no(1, 0, 0));
     }
     let mut lines = Reader { cfg, at: 0, line: 0, starts: [0; MOST_FIELDS + 1], notes };
-    station(&mut lines)?;
+    let is_1999 = station(&mut lines)?;
     let (a, d) = channels(&mut lines)?;
     for index in 1..=a {
         analog(&mut lines, index)?;
@@ -308,26 +308,42 @@ pub fn read<N: Notes>(cfg: &[u8], places: &mut [i64; PLACES], notes: &mut N) -> 
     let trigger = moment(&mut lines, &mut places[19..26])?;
     places[26] = (trigger - first).div_euclid(1_000_000_000) as i64;
     places[27] = (trigger - first).rem_euclid(1_000_000_000) as i64;
-    places[28] = kind(&mut lines)?;
-    multiplier(&mut lines)?;
-    codes(&mut lines, &mut places[29..32])?;
-    quality(&mut lines, &mut places[32..34])?;
+    places[28] = kind(&mut lines, kinds(is_1999))?;
+    multiplier(&mut lines, is_1999)?;
+    if is_1999 {
+        places[29..34].fill(NONE);
+    } else {
+        codes(&mut lines, &mut places[29..32])?;
+        quality(&mut lines, &mut places[32..34])?;
+    }
+    places[34] = if is_1999 { 1999 } else { 2013 };
     if lines.at < cfg.len() {
         return Err(no(9, lines.line + 1, 0));
     }
     Ok(())
 }
 
-fn station<N: Notes>(lines: &mut Reader<N>) -> Result<(), Answer> {
+/// How many kinds an edition has, counted from ASCII on.
+pub fn kinds(is_1999: bool) -> usize {
+    if is_1999 {
+        2
+    } else {
+        3
+    }
+}
+
+/// Whether the edition is that of 1999; it is that of 2013 else.
+fn station<N: Notes>(lines: &mut Reader<N>) -> Result<bool, Answer> {
     lines.next(3)?;
     lines.text(1, 0, 64)?;
     lines.text(2, 0, 64)?;
     let year = lines.field(3);
     lines.form(3, year.len() == 4 && number(year).is_some())?;
-    if year != b"2013" {
-        return Err(lines.no(8, 3));
+    match year {
+        b"2013" => Ok(false),
+        b"1999" => Ok(true),
+        _ => Err(lines.no(8, 3)),
     }
-    Ok(())
 }
 
 fn channels<N: Notes>(lines: &mut Reader<N>) -> Result<(u64, u64), Answer> {
@@ -458,18 +474,19 @@ fn moment<N: Notes>(lines: &mut Reader<N>, places: &mut [i64]) -> Result<i128, A
     Ok(i128::from(seconds) * 1_000_000_000 + i128::from(nanosecond))
 }
 
-fn kind<N: Notes>(lines: &mut Reader<N>) -> Result<i64, Answer> {
+/// One of so many kinds.
+fn kind<N: Notes>(lines: &mut Reader<N>, kinds: usize) -> Result<i64, Answer> {
     lines.next(1)?;
     lines.text(1, 5, 8)?;
     let words: [&[u8]; 3] = [b"ascii", b"binary", b"binary32"];
-    let kind = words.iter().position(|word| lines.field(1).eq_ignore_ascii_case(word));
+    let kind = words[..kinds].iter().position(|word| lines.field(1).eq_ignore_ascii_case(word));
     let kind = kind.ok_or_else(|| lines.no(6, 1))?;
     lines.notes.word(lines.starts[0], lines.starts[1] - 1);
     Ok(kind as i64)
 }
 
-fn multiplier<N: Notes>(lines: &mut Reader<N>) -> Result<(), Answer> {
-    lines.next(1)?;
+fn multiplier<N: Notes>(lines: &mut Reader<N>, is_last: bool) -> Result<(), Answer> {
+    lines.take(1, is_last)?;
     let real = lines.real(1, 32)?;
     lines.range(1, real.above_zero())?;
     lines.note_spaces([1]);

@@ -32,11 +32,11 @@ pub fn number_length(number: i32) -> usize {
     usize::from(number < 0) + digits(number.unsigned_abs())
 }
 
-/// How long the plain form of a sample is; nothing is written for a missing one.
+/// How long the plain form of a sample is, that of a missing one being given.
 #[inline(always)]
-pub fn sample_length(sample: i32) -> usize {
+pub fn sample_length(sample: i32, missing: usize) -> usize {
     match sample {
-        MISSING => 0,
+        MISSING => missing,
         number => number_length(number),
     }
 }

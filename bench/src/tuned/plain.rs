@@ -1,7 +1,7 @@
 //! Text written in its plain form.
 
 use super::numbers::{digits, number_length, put_digits, sample_length};
-use super::{fits, given, no, word_of, Answer, Layout, MISSING};
+use super::{fits, fits_marked, given, no, word_of, Answer, Layout, MISSING};
 
 /// The longest plain row with its line end: number, time, 96 samples, 256 statuses.
 const LONGEST: usize = 7 + 11 + 96 * 12 + 256 * 2 + 2;
@@ -27,11 +27,17 @@ const fn four_statuses() -> [[u8; 8]; 16] {
 
 /// Writes into room that is known to be enough.
 pub struct Pen<'a> {
-    pub out: &'a mut [u8],
-    pub at: usize,
+    out: &'a mut [u8],
+    at: usize,
+    /// What is written for a missing sample.
+    missing: &'static [u8],
 }
 
-impl Pen<'_> {
+impl<'a> Pen<'a> {
+    pub fn new(layout: &Layout, out: &'a mut [u8]) -> Pen<'a> {
+        Pen { out, at: 0, missing: layout.missing_text() }
+    }
+
     #[inline(always)]
     fn take(&mut self, length: usize) -> &mut [u8] {
         let place = &mut self.out[self.at..self.at + length];
@@ -53,7 +59,8 @@ impl Pen<'_> {
     #[inline(always)]
     pub fn sample(&mut self, sample: i32) {
         if sample == MISSING {
-            return self.bytes(b",");
+            self.bytes(b",");
+            return self.bytes(self.missing);
         }
         let place = self.take(1 + number_length(sample));
         place[0] = b',';
@@ -90,15 +97,20 @@ pub fn bare_length(layout: &Layout, n: u32, time: u32) -> usize {
 
 /// Writes a row: 16, 17. Room for the longest row needs no counting.
 pub fn put_row(layout: &Layout, n: u32, row: &[i64], out: &mut [u8]) -> Result<usize, Answer> {
-    fits(layout, n, row, 32)?;
+    if layout.marked {
+        fits_marked(layout, n, row)?;
+    } else {
+        fits(layout, n, row, 32)?;
+    }
     let (samples, statuses) = row[1..].split_at(layout.a);
     if out.len() < LONGEST {
-        let lengths: usize = samples.iter().map(|&sample| sample_length(given(sample))).sum();
+        let missing = layout.missing_text().len();
+        let lengths: usize = samples.iter().map(|&sample| sample_length(given(sample), missing)).sum();
         if out.len() < bare_length(layout, n, row[0] as u32) + lengths {
             return Err(no(17, 0, 0));
         }
     }
-    let mut pen = Pen { out, at: 0 };
+    let mut pen = Pen::new(layout, out);
     pen.number(n);
     pen.time(row[0] as u32);
     for &sample in samples {

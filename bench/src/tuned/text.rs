@@ -1,7 +1,7 @@
 //! Text rows. A row is read field by field in one go; only a row that fails is looked through again for its refusal.
 
 use super::plain::END_MARK;
-use super::{no, place_of, Answer, Layout, MISSING};
+use super::{no, place_of, Answer, Layout, MARK, MISSING};
 
 /// What is done with the fields of a row, from the left. Statuses come up to four at a time, bit 0 first.
 pub trait Fields {
@@ -52,20 +52,25 @@ fn count(data: &[u8], start: usize, most: usize) -> Option<(u64, usize)> {
     Some((value, end))
 }
 
-/// A sample of at most 13 characters within 32 bits. Where neither a space nor a sign nor a digit stands it is missing:
-/// what does stand there has to end the field, which is tested next.
+/// A sample of at most 13 characters: within 32 bits, or in a marked text at most 99,999 from zero. In a marked text that
+/// number is a missing one; in another it is missing where neither a space nor a sign nor a digit stands: what does stand
+/// there has to end the field, which is tested next.
 #[inline(always)]
-fn sample(data: &[u8], start: usize) -> Option<(i32, usize)> {
+fn sample<const MARKED: bool>(data: &[u8], start: usize) -> Option<(i32, usize)> {
+    let farthest = if MARKED { MARK as u64 } else { i32::MAX as u64 };
     let at = after_spaces(data, start)?;
     let sign = data[at];
     let minus = sign == b'-';
     let first = at + usize::from(minus || sign == b'+');
     let (distance, end) = run(data, first)?;
-    if end == first || end - start > 13 || distance > i32::MAX as u64 {
-        return (end == start).then_some((MISSING, start));
+    if end == first || end - start > 13 || distance > farthest {
+        return (!MARKED && end == start).then_some((MISSING, start));
     }
     let value = distance as u32 as i32;
-    Some((if minus { value.wrapping_neg() } else { value }, end))
+    match if minus { value.wrapping_neg() } else { value } {
+        mark if MARKED && mark == MARK as i32 => Some((MISSING, end)),
+        sample => Some((sample, end)),
+    }
 }
 
 #[inline(always)]
@@ -104,7 +109,13 @@ fn statuses<F: Fields>(layout: &Layout, data: &[u8], mut at: usize, fields: &mut
 /// Reads row n from `start`, and gives where it ends; nothing where it is to be refused. Fields of the right length
 /// can't make a row over 1,880 bytes, nor hold a bad byte.
 #[inline(always)]
-fn read_row<F: Fields>(layout: &Layout, data: &[u8], start: usize, n: u32, fields: &mut F) -> Option<usize> {
+fn read_row<const MARKED: bool, F: Fields>(
+    layout: &Layout,
+    data: &[u8],
+    start: usize,
+    n: u32,
+    fields: &mut F,
+) -> Option<usize> {
     let (number, at) = count(data, start, 10)?;
     if number != u64::from(n) {
         return None;
@@ -113,7 +124,7 @@ fn read_row<F: Fields>(layout: &Layout, data: &[u8], start: usize, n: u32, field
     let (time, mut at) = count(data, comma(data, at)?, 13)?;
     fields.time(u32::try_from(time).ok()?);
     for _ in 0..layout.a {
-        let (value, end) = sample(data, comma(data, at)?)?;
+        let (value, end) = sample::<MARKED>(data, comma(data, at)?)?;
         fields.sample(value);
         at = end;
     }
@@ -124,9 +135,17 @@ fn read_row<F: Fields>(layout: &Layout, data: &[u8], start: usize, n: u32, field
 /// The whole file, every field of it handed on; gives the bytes of its rows. A refusal may come after fields handed on.
 #[inline(always)]
 pub fn walk<F: Fields>(layout: &Layout, data: &[u8], fields: &mut F) -> Result<usize, Answer> {
+    if layout.marked {
+        return walk_rows::<true, F>(layout, data, fields);
+    }
+    walk_rows::<false, F>(layout, data, fields)
+}
+
+#[inline(always)]
+fn walk_rows<const MARKED: bool, F: Fields>(layout: &Layout, data: &[u8], fields: &mut F) -> Result<usize, Answer> {
     let mut at = 0;
     for n in 1..=layout.rows {
-        match read_row(layout, data, at, n, fields) {
+        match read_row::<MARKED, F>(layout, data, at, n, fields) {
             Some(end) => at = end,
             None => return Err(refusal(layout, data, at, n)),
         }
@@ -193,7 +212,12 @@ impl Fields for Shown<'_> {
 
 /// Shows row n, which starts at `start` and passes.
 pub fn show(layout: &Layout, data: &[u8], start: usize, n: u32, shown: &mut [i64]) {
-    read_row(layout, data, start, n, &mut Shown { places: shown.iter_mut() });
+    let mut fields = Shown { places: shown.iter_mut() };
+    if layout.marked {
+        read_row::<true, _>(layout, data, start, n, &mut fields);
+    } else {
+        read_row::<false, _>(layout, data, start, n, &mut fields);
+    }
 }
 
 /// The refusal of a row that could not be read: the line, the count of fields, the fields from the left.
@@ -251,7 +275,8 @@ fn field_passes(layout: &Layout, place: usize, field: &[u8]) -> bool {
     } else if place == 1 {
         whole(count(&ended, 0, 13), field).is_some_and(|time| time <= u64::from(u32::MAX))
     } else if place < 2 + layout.a {
-        whole(sample(&ended, 0), field).is_some()
+        let read = if layout.marked { sample::<true>(&ended, 0) } else { sample::<false>(&ended, 0) };
+        whole(read, field).is_some()
     } else {
         field == b"0" || field == b"1"
     }

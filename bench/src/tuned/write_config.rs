@@ -1,7 +1,7 @@
 //! The configuration written for a kind. It is read once, and where it has to be cut is noted; what lies between the
 //! cuts is copied.
 
-use super::config::{read, Notes, MOST_BYTES, PLACES};
+use super::config::{kinds, read, Notes, MOST_BYTES, PLACES};
 use super::{answer, no, Answer};
 
 /// The kinds' words, by number.
@@ -90,12 +90,15 @@ fn missing_end(cfg: &[u8]) -> &'static [u8] {
 
 /// Writes a configuration: the reader's refusals, then 10, 1 for a result too long, 17.
 pub fn write_config(cfg: &[u8], kind: u32, out: &mut [u8]) -> Answer {
-    let mut cuts = Cuts::new();
-    answer(read(cfg, &mut [0; PLACES], &mut cuts).and_then(|_| put_config(cfg, &cuts, kind, out)))
+    let (mut cuts, mut places) = (Cuts::new(), [0; PLACES]);
+    answer(read(cfg, &mut places, &mut cuts).and_then(|_| {
+        let words = &WORDS[..kinds(places[34] == 1999)];
+        put_config(cfg, &cuts, words.get(kind as usize), out)
+    }))
 }
 
-fn put_config(cfg: &[u8], cuts: &Cuts, kind: u32, out: &mut [u8]) -> Result<usize, Answer> {
-    let Some(word) = WORDS.get(kind as usize) else { return Err(no(10, 0, 0)) };
+fn put_config(cfg: &[u8], cuts: &Cuts, word: Option<&&[u8]>, out: &mut [u8]) -> Result<usize, Answer> {
+    let Some(word) = word else { return Err(no(10, 0, 0)) };
     let length = cuts.length(cfg, word);
     if length > MOST_BYTES {
         return Err(no(1, 0, 0));

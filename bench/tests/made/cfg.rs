@@ -54,6 +54,8 @@ const FIELDS: &[&str] = &[
     "0.123 E4",
     "123E",
     "2013",
+    "1999",
+    "1991",
     "2014",
     "201",
     "02013",
@@ -132,9 +134,10 @@ const FIELDS: &[&str] = &[
     "aa",
 ];
 
-/// The lines of a configuration that passes, with some last rows.
+/// The lines of a configuration that passes, with some last rows; one of 1999 ends with the time multiplier.
 fn lines(dice: &mut Dice, a: u64, d: u64) -> Vec<String> {
-    let mut lines = vec!["Bench 2,R7,2013".to_string(), format!("{},{a}A,{d}D", a + d)];
+    let year = dice.pick(&[2013, 2013, 1999]);
+    let mut lines = vec![format!("Bench 2,R7,{year}"), format!("{},{a}A,{d}D", a + d)];
     for index in 1..=a {
         lines.push(format!("{index},Ia,A,,A,0.5,0,0,-2048,2047,400,1,S"));
     }
@@ -153,9 +156,8 @@ fn lines(dice: &mut Dice, a: u64, d: u64) -> Vec<String> {
         let fraction = dice.pick(&["000000", "663700", "6875001", "99999999", "976200000"]);
         lines.push(format!("{day:02}/{month:02}/{year},{hour:02}:38:26.{fraction}"));
     }
-    for line in ["ASCII", "1", "0,0", "0,3"] {
-        lines.push(line.to_string());
-    }
+    let ends = ["ASCII", "1", "0,0", "0,3"];
+    lines.extend(ends[..if year == 1999 { 2 } else { 4 }].iter().map(|line| line.to_string()));
     lines
 }
 
@@ -173,10 +175,10 @@ fn change_field(dice: &mut Dice, lines: &mut [String]) {
     lines[line] = fields.join(",");
 }
 
-/// Spaces before some of the fields that may have them.
+/// Spaces before some of the fields that may have them; those of the last line of 2013 may not.
 fn space_out(dice: &mut Dice, lines: &mut [String]) {
-    let last = lines.len() - 1;
-    for line in &mut lines[1..last] {
+    let end = lines.len() - usize::from(lines[0].ends_with("2013"));
+    for line in &mut lines[1..end] {
         let fields: Vec<&str> = line.split(',').collect();
         let mut spaced = |(place, field): (usize, &&str)| {
             let one_character = fields.len() >= 5 && place + 1 == fields.len();
@@ -208,6 +210,9 @@ pub fn configuration(dice: &mut Dice) -> Vec<u8> {
     }
     for _ in 0..dice.below(4) {
         change_field(dice, &mut lines);
+    }
+    if dice.once_in(16) {
+        lines.extend(["0,0", "0,3"].map(str::to_string));
     }
     let mut cfg = lines.join("\r\n").into_bytes();
     if !dice.once_in(3) {

@@ -4,6 +4,7 @@ mod cfg;
 
 pub use cfg::{configuration, configuration_of_size};
 
+use bench::LayoutNumbers;
 use dice::Dice;
 
 /// A missing sample in the rows that a file is made from.
@@ -22,10 +23,7 @@ pub fn odd_number(dice: &mut Dice) -> i64 {
 
 /// A layout, the rows it is made from, and a data file.
 pub struct Recording {
-    pub a: u32,
-    pub d: u32,
-    pub rows: u32,
-    pub kind: u32,
+    pub layout: LayoutNumbers,
     pub values: Vec<Vec<i64>>,
     pub data: Vec<u8>,
 }
@@ -35,12 +33,18 @@ impl Recording {
     pub fn made(dice: &mut Dice) -> Recording {
         let (a, d) = channels(dice);
         let rows = 1 + dice.below(5) as u32;
-        let kind = dice.below(3) as u32;
-        let wide = kind != 1 && dice.once_in(3);
+        let edition = dice.pick(&[2013, 2013, 1999]);
+        let kind = dice.below(if edition == 1999 { 2 } else { 3 }) as u32;
+        let wide: &[i64] = match (kind, edition) {
+            (1, _) => &[],
+            _ if dice.below(3) > 0 => &[],
+            (_, 1999) => &WIDE_IN_1999,
+            _ => &WIDE,
+        };
         let missing = dice.pick(&[0, 0, 1, 2, 5]);
         let values: Vec<Vec<i64>> = (0..rows).map(|_| row(dice, a, d, wide, missing)).collect();
         let mut data = match kind {
-            0 => text_file(dice, &values, a as usize),
+            0 => text_file(dice, &values, a as usize, edition),
             _ => binary_file(&values, a as usize, 2 * kind as usize),
         };
         if dice.once_in(2) {
@@ -48,7 +52,7 @@ impl Recording {
                 damage(dice, &mut data);
             }
         }
-        let mut made = Recording { a, d, rows, kind, values, data };
+        let mut made = Recording { layout: LayoutNumbers { a, d, rows, kind, edition }, values, data };
         if dice.once_in(12) {
             made.change_layout(dice);
         }
@@ -57,17 +61,21 @@ impl Recording {
 
     fn change_layout(&mut self, dice: &mut Dice) {
         let odd = dice.pick(&[0, 1, 2, 3, 97, 257, 1_000_000, 1_000_001, u32::MAX]);
-        match dice.below(4) {
-            0 => self.a = odd,
-            1 => self.d = odd,
-            2 => self.rows = odd,
-            _ => self.kind = odd,
+        match dice.below(5) {
+            0 => self.layout.a = odd,
+            1 => self.layout.d = odd,
+            2 => self.layout.rows = odd,
+            3 => self.layout.kind = odd,
+            _ => self.layout.edition = dice.pick(&[0, 1991, 1999, 2013, 2014, u32::MAX]),
         }
     }
 }
 
 /// Samples that do not fit 16 bits.
 const WIDE: [i64; 7] = [-2_147_483_647, 2_147_483_647, 32_768, -32_768, -32_769, 999_999_999, 1_000_000_000];
+
+/// The same of those that a text of 1999 may have.
+const WIDE_IN_1999: [i64; 6] = [99_998, -99_999, 99_997, 32_768, -32_768, -32_769];
 
 fn channels(dice: &mut Dice) -> (u32, u32) {
     let known = [(1, 1), (8, 16), (0, 1), (1, 0), (0, 17), (2, 15), (3, 32), (0, 256), (5, 4), (2, 5), (6, 6)];
@@ -79,8 +87,9 @@ fn channels(dice: &mut Dice) -> (u32, u32) {
     }
 }
 
-/// A time, samples and statuses; one sample of so many is missing, or none where that is 0.
-fn row(dice: &mut Dice, a: u32, d: u32, wide: bool, missing: u64) -> Vec<i64> {
+/// A time, samples and statuses; some samples are of the wide ones where there are any, and one sample of so many is
+/// missing, or none where that is 0.
+fn row(dice: &mut Dice, a: u32, d: u32, wide: &[i64], missing: u64) -> Vec<i64> {
     let mut row = vec![match dice.below(4) {
         0 => dice.pick(&[0, 4_294_967_295, 4_294_967_294, 999_999_999, 1_000_000_000]),
         _ => (dice.word() as u32 >> dice.below(32)) as i64,
@@ -89,7 +98,7 @@ fn row(dice: &mut Dice, a: u32, d: u32, wide: bool, missing: u64) -> Vec<i64> {
         let sample = match dice.below(6) {
             _ if missing > 0 && dice.once_in(missing) => NONE,
             0 => dice.pick(&[0, -1, 9, 10, -10, 99, 100, -32_767, 32_767]),
-            1 if wide => dice.pick(&WIDE),
+            1 if !wide.is_empty() => dice.pick(wide),
             _ => (dice.word() as i16 >> dice.below(16)).max(-32_767).into(),
         };
         row.push(sample);
@@ -143,6 +152,15 @@ const ODD_FIELDS: &[&str] = &[
     "-4294967296",
     "9999999999",
     "18446744073709551617",
+    "99998",
+    "99999",
+    "+99999",
+    "  99999",
+    "0000000099999",
+    "00000000099999",
+    "100000",
+    "-99999",
+    "-100000",
     "32768",
     "-32767",
     "-32768",
@@ -182,11 +200,12 @@ enum Style {
 }
 
 /// One field of a text row in a style: the number in 10 characters, time and samples in 13, statuses in one. A missing
-/// sample is an empty field in each.
-fn text_field(dice: &mut Dice, style: Style, place: usize, a: usize, value: i64) -> String {
+/// sample is an empty field in 2013, and 99999 in 1999.
+fn text_field(dice: &mut Dice, style: Style, place: usize, a: usize, value: i64, edition: u32) -> String {
     let most = if place == 0 { 10 } else { 13 };
     match style {
-        _ if value == NONE => String::new(),
+        _ if value == NONE && edition == 2013 => String::new(),
+        _ if value == NONE => text_field(dice, style, place, a, 99_999, edition),
         _ if place > 1 + a => value.to_string(),
         Style::Plain => value.to_string(),
         Style::Mixed => text_number(dice, value, most, place > 1),
@@ -194,7 +213,7 @@ fn text_field(dice: &mut Dice, style: Style, place: usize, a: usize, value: i64)
     }
 }
 
-fn text_file(dice: &mut Dice, values: &[Vec<i64>], a: usize) -> Vec<u8> {
+fn text_file(dice: &mut Dice, values: &[Vec<i64>], a: usize, edition: u32) -> Vec<u8> {
     let style = dice.pick(&[Style::Plain, Style::Plain, Style::Mixed, Style::Mixed, Style::Longest]);
     let odd_row = dice.below(4 * values.len() as u64) as usize + 1;
     let odd_place = dice.below(1 + values[0].len() as u64) as usize;
@@ -203,7 +222,8 @@ fn text_file(dice: &mut Dice, values: &[Vec<i64>], a: usize) -> Vec<u8> {
         for (place, &value) in std::iter::once(&n).chain(row).enumerate() {
             text.push_str(if place > 0 { "," } else { "" });
             let odd = (n as usize, place) == (odd_row, odd_place);
-            let field = if odd { dice.pick(ODD_FIELDS).into() } else { text_field(dice, style, place, a, value) };
+            let own = text_field(dice, style, place, a, value, edition);
+            let field = if odd { dice.pick(ODD_FIELDS).into() } else { own };
             text.push_str(&field);
         }
         text.push_str("\r\n");

@@ -1,5 +1,6 @@
+use super::of_2013::{change, check, length, row, write_row};
 use super::{no, yes, T1, T2, T3};
-use crate::{change, check, length, row, write_row, Answer, NONE};
+use crate::{Answer, NONE};
 use dice::Dice;
 
 /// The new file, its length asked first, then with exact, ample and too little room; or the refusal.

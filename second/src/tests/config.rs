@@ -1,22 +1,22 @@
 use super::{join, no, of_size, with, yes, S};
 use crate::config;
 
-/// The answer for a configuration; a "no" changes no lent place, a "yes" only the first 34.
-fn ask(cfg: &[u8]) -> crate::Answer {
+/// The answer for a configuration; a "no" changes no lent place, a "yes" only the first 35.
+pub fn ask(cfg: &[u8]) -> crate::Answer {
     let mut shown = [-77; 40];
     let answer = config(cfg, &mut shown);
     if answer.number == 0 {
         assert_eq!(answer, yes(0));
-        assert_eq!(shown[34..], [-77; 6]);
+        assert_eq!(shown[35..], [-77; 5]);
     } else {
         assert_eq!(shown, [-77; 40]);
     }
     answer
 }
 
-/// The 34 places of an accepted configuration.
-fn shown(cfg: &[u8]) -> [i64; 34] {
-    let mut shown = [-1; 34];
+/// The 35 places of an accepted configuration.
+pub fn shown(cfg: &[u8]) -> [i64; 35] {
+    let mut shown = [-1; 35];
     assert_eq!(config(cfg, &mut shown), yes(0));
     shown
 }
@@ -34,17 +34,17 @@ fn each(line: usize, cases: &[(&str, u32, u32)]) {
 fn the_recording_is_shown() {
     let want = [
         1, 1, 1, 2, 2, 0, 0, 0, 0, 0, 0, 0, 2024, 2, 3, 9, 15, 0, 0, 2024, 2, 3, 9, 15, 0, 1_000_000, 0, 1_000_000, 0,
-        0, 0, 0, 0, 3,
+        0, 0, 0, 0, 3, 2013,
     ];
     assert_eq!(shown(&join(&S)), want);
 }
 
 /// 17 is the last of all.
 #[test]
-fn room_for_34_places_is_the_last_test() {
-    let mut short = [5; 33];
+fn room_for_35_places_is_the_last_test() {
+    let mut short = [5; 34];
     assert_eq!(config(&join(&S), &mut short), no(17, 0, 0));
-    assert_eq!(short, [5; 33]);
+    assert_eq!(short, [5; 34]);
     assert_eq!(config(&with(&[(13, "0,4")]), &mut short), no(6, 13, 2));
     let mut longer = join(&S);
     longer.push(b'x');
@@ -220,7 +220,7 @@ fn empty_lines_are_one_empty_field() {
     }
 }
 
-/// Station, device, year: 5 for length or form, 8 for a year of four digits, not 2013.
+/// Station, device, year: 5 for length or form, 8 for a year of four digits, not 2013 or 1999.
 #[test]
 fn line_1() {
     let s64 = "s".repeat(64);
@@ -241,7 +241,7 @@ fn line_1() {
             (",,201", 5, 3),
             (",,+201", 5, 3),
             (",,201x", 5, 3),
-            (",,1999", 8, 3),
+            (",,1998", 8, 3),
             (",,1991", 8, 3),
             (",,0000", 8, 3),
             (",,2014", 8, 3),
@@ -843,10 +843,10 @@ fn quality_and_leap_code() {
     for (text, value) in
         [("0", 0), ("1", 1), ("9", 9), ("A", 10), ("a", 10), ("B", 11), ("b", 11), ("F", 15), ("f", 15)]
     {
-        assert_eq!(shown(&with(&[(13, &format!("{text},1"))]))[32..], [value, 1], "{text}");
+        assert_eq!(shown(&with(&[(13, &format!("{text},1"))]))[32..34], [value, 1], "{text}");
     }
     for leap in 0..4 {
-        assert_eq!(shown(&with(&[(13, &format!("F,{leap}"))]))[32..], [15, leap]);
+        assert_eq!(shown(&with(&[(13, &format!("F,{leap}"))]))[32..34], [15, leap]);
     }
     each(
         13,

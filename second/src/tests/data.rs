@@ -1,5 +1,6 @@
+use super::of_2013::{check, row, write_row};
 use super::{no, yes, T1, T2, T3};
-use crate::{check, row, write_row, Answer, NONE};
+use crate::{Answer, NONE};
 use dice::Dice;
 
 /// The places of row n.

@@ -17,7 +17,7 @@ fn refusals_are_one_line() {
     assert_eq!(list(&with(&[(10, "binary")]), T1), "no dat 11 0 0\n");
     assert_eq!(list(&join(&S), b""), "no dat 11 1 0\n");
     assert_eq!(list(&join(&S), b"1,0,-3,0\r\n2,1000,300,1\r\nx"), "no dat 11 3 0\n");
-    assert_eq!(list(&with(&[(1, ",,1999")]), T1), "no cfg 8 1 3\n");
+    assert_eq!(list(&with(&[(1, ",,1991")]), T1), "no cfg 8 1 3\n");
 }
 
 /// For a data file over 65,536 bytes: no dat size.

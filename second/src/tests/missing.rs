@@ -2,8 +2,9 @@
 
 use super::change::changed;
 use super::data::shown;
+use super::of_2013::{check, row, write_row};
 use super::{join, no, with, yes, S};
-use crate::{check, list, row, write_row, Answer, NONE};
+use crate::{list, Answer, NONE};
 
 /// A binary row of two samples and a status: the pattern 8000 hex, the highest sample, on.
 const TWO: [u8; 14] = [1, 0, 0, 0, 0, 0, 0, 0, 0x00, 0x80, 0xFF, 0x7F, 1, 0];

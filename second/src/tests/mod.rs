@@ -3,9 +3,11 @@
 mod change;
 mod config;
 mod data;
+mod editions;
 mod list;
 mod missing;
 mod numbers;
+mod of_2013;
 mod write_config;
 
 use crate::Answer;

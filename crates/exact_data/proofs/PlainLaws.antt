@@ -20,6 +20,7 @@ use Rattle.ground.specs.Tables.{every}
 use Rattle.ground.proofs.Cases.{on-test, clash}
 use Rattle.ground.proofs.Every.{and-split, and-join}
 use Rattle.ground.proofs.Tables.{cat-ext}
+use Rattle.ground.proofs.Walk.{done}
 use Rattle.text.specs.Fields.{fieldAt}
 use Rattle.numerals.specs.Counts.{isDigit}
 use Rattle.numerals.specs.Decimals.{plain, isPlainCount, isPlain}
@@ -105,13 +106,9 @@ whole-from f (inr (d, e, p, h)) = rw e (and-join (isPlainCount d) (not (eqb (get
 pub plain-whole-exactly : (f : List ℕ) → isPlain f ≡ true ↔ PlainWhole f
 plain-whole-exactly f = (whole-to f, whole-from f)
 
-empty : (f : List ℕ) → eqb (length f) 0 ≡ true → f ≡ []
-empty [] h = refl
-empty (b ∷ f) h = absurd (omega (arith, eqb-true (length (b ∷ f)) 0 h))
-
 -- a plain sample, by kind and edition
 plain-to : (k : Kind) (e : Edition) (f : List ℕ) → k ≡ Ascii → (if markedIn k e then isPlain f else (eqb (length f) 0 || isPlain f)) ≡ true → PlainSample e f
-plain-to Ascii Y2013 f t p = on-test (eqb (length f) 0) (λ n. inr (empty f n)) (λ n. inl (whole-to f (rw n at p)))
+plain-to Ascii Y2013 f t p = on-test (eqb (length f) 0) (λ n. inr (done f 0 (omega (arith, eqb-true (length f) 0 n)))) (λ n. inl (whole-to f (rw n at p)))
 plain-to Ascii Y1999 f t p = whole-to f p
 plain-to Binary e f t p = clash (cc)
 plain-to Binary32 e f t p = clash (cc)

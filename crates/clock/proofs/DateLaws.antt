@@ -22,11 +22,11 @@ use Rattle.ground.specs.Choice.{if_then_else_}
 use Rattle.ground.proofs.Cases.{on-test, clash}
 use Rattle.ground.proofs.Every.{and-split}
 use Rattle.clock.specs.declared.Date.{Date}
-use Rattle.clock.specs.declared.DateField.the-variants.{Is, Form, Range}
+use Rattle.clock.specs.declared.DateField.the-variants.{Is}
 use Rattle.patterns.specs.Patterns.{between, fitsPattern}
-use Rattle.clock.specs.Dates.{leapYear, shortMonth, monthDays, validDate, datePattern, dateOf, readDate, daysOfYears, daysOfMonths, dayNumber}
+use Rattle.clock.specs.Dates.{leapYear, shortMonth, monthDays, validDate, datePattern, dateOf, isZeroDate, readDate, daysOfYears, daysOfMonths, dayNumber}
 use Rattle.clock.specs.Inner.{nextDay}
-use Rattle.patterns.proofs.PatternLaws.{between-bounds, between-is, chosen}
+use Rattle.patterns.proofs.PatternLaws.{between-bounds, between-is}
 
 pub date-bounds : (x : Date) → validDate x ≡ true
     → (1900 ≤ x .year) × (x .year ≤ 9999) × (1 ≤ x .month) × (x .month ≤ 12) × (1 ≤ x .day) × (x .day ≤ monthDays (x .year) (x .month))
@@ -159,7 +159,11 @@ next-valid x e h =
 
 pub read-date-valid : (l : List ℕ) (x : Date) → readDate l ≡ Is x → validDate x ≡ true
 unfolding readDate
-read-date-valid l x e =
-    let s = chosen (fitsPattern datePattern l) (validDate (dateOf l)) (Is (dateOf l)) Range Form (Is x) (λ f. clash (cc)) (λ f. clash (cc)) e in
-    let q : dateOf l ≡ x = cc in
-    rw (← q) (s .0)
+read-date-valid l x =
+    on-test (fitsPattern datePattern l)
+    (λ f. on-test (isZeroDate (dateOf l))
+    (λ z. rw (f, z) (λ e. clash (cc)))
+    (λ z. on-test (validDate (dateOf l))
+    (λ v. rw (f, z, v) (λ e. let q : dateOf l ≡ x = cc in rw (← q) v))
+    (λ v. rw (f, z, v) (λ e. clash (cc)))))
+    (λ f. rw f (λ e. clash (cc)))

@@ -1,6 +1,6 @@
--- Dates of the years 1900 to 9999, as dd/mm/yyyy, and their days counted.
+-- Dates of the years 1900 to 9999, as dd/mm/yyyy, no date, and days counted.
 use Prim.Native.Nat.{ℕ, zero, suc, _+_, _-_, _*_, _/_, _%_}
-use mathlib.Core.Bool.{Bool, true, false, _&&_, _||_}
+use mathlib.Core.Bool.{Bool, true, false, not, _&&_, _||_}
 use mathlib.Core.List.{List}
 use lib.Dec.{eqb}
 use lib.IntN.{ℤ, pos}
@@ -8,7 +8,7 @@ use Rattle.ground.specs.Quoted.{quoted}
 use Rattle.ground.specs.Choice.{if_then_else_}
 use Rattle.clock.specs.declared.Date.{Date}
 use Rattle.clock.specs.declared.DateField.{DateField}
-use Rattle.clock.specs.declared.DateField.the-variants.{Is, Form, Range}
+use Rattle.clock.specs.declared.DateField.the-variants.{Is, None, Form, Range}
 use Rattle.patterns.specs.Patterns.{fitsPattern, digitsAt, between}
 
 -- a leap year: by 400, or by 4 and not by 100
@@ -35,9 +35,17 @@ datePattern = quoted "dd/dd/dddd"
 unfoldable pub dateOf : List ℕ → Date
 dateOf l = record { day = digitsAt 0 2 l; month = digitsAt 3 5 l; year = digitsAt 6 10 l }
 
--- a date: the pattern first, and then the range
+-- day, month and year are zero
+unfoldable pub isZeroDate : Date → Bool
+isZeroDate x = eqb (x .day) 0 && eqb (x .month) 0 && eqb (x .year) 0
+
+-- a date: the pattern first; all zeros are no date; and then the range
 unfoldable pub readDate : List ℕ → DateField
-readDate l = if fitsPattern datePattern l then if validDate (dateOf l) then Is (dateOf l) else Range else Form
+readDate l =
+    if not (fitsPattern datePattern l) then Form
+    else if isZeroDate (dateOf l) then None
+    else if validDate (dateOf l) then Is (dateOf l)
+    else Range
 
 -- the days of the first n years, counted from year 1
 unfoldable pub daysOfYears : ℕ → ℕ

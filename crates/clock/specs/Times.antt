@@ -2,7 +2,7 @@
 use Prim.Native.Nat.{ℕ, _+_, _-_, _*_, _^_}
 use mathlib.Core.Bool.{Bool, _&&_}
 use mathlib.Core.List.{List}
-use lib.Dec.{ltb}
+use lib.Dec.{eqb, ltb}
 use lib.ListN.{length, take}
 use Rattle.ground.specs.Quoted.{quoted}
 use Rattle.ground.specs.Choice.{if_then_else_}
@@ -35,6 +35,10 @@ timeOf l = record { hour = digitsAt 0 2 l; minute = digitsAt 3 5 l; second = dig
 -- a time of day: the pattern first, and then the range
 unfoldable pub readTime : List ℕ → TimeField
 readTime l = if timeForm l then if validTime (timeOf l) then Is (timeOf l) else Range else Form
+
+-- a time of zeros
+unfoldable pub isZeroTime : Time → Bool
+isZeroTime x = eqb (x .hour) 0 && eqb (x .minute) 0 && eqb (x .second) 0 && eqb (x .nanosecond) 0
 
 -- the whole seconds of a day that are gone
 unfoldable pub secondOfDay : Time → ℕ

@@ -5,7 +5,7 @@ ghost use mathlib.Core.Path.{_≡_};
 ghost use mathlib.Core.Bool.{true};
 ghost use Prim.Native.Nat.{_≤_};
 ghost use lib.ListN.{length};
-ghost use Rattle.clock.specs.Dates.{leapYear, shortMonth, monthDays, validDate, dateOf, readDate, daysOfYears, daysOfMonths, dayNumber};
+ghost use Rattle.clock.specs.Dates.{leapYear, shortMonth, monthDays, validDate, dateOf, isZeroDate, readDate, daysOfYears, daysOfMonths, dayNumber};
 
 fn leap_year(year: u32) -> bool
     ensures { λ r. ⌜ r ≡ leapYear year ⌝ }
@@ -61,7 +61,20 @@ fn date_of(s: &[u8]) -> Date
     }
 }
 
-// A field that has the form dd/mm/yyyy.
+// Whether this is the date of zeros.
+fn is_zero_date(date: Date) -> bool
+    ensures { λ r. ⌜ r ≡ isZeroDate date ⌝ }
+{
+    if date.day != 0 {
+        return false;
+    }
+    if date.month != 0 {
+        return false;
+    }
+    date.year == 0
+}
+
+// A field as a date: no date where it is 00/00/0000.
 pub fn read_date(field: &[u8]) -> DateField
     ensures { λ r. ⌜ r ≡ readDate (now (field .entry)) ⌝ }
 {
@@ -69,6 +82,9 @@ pub fn read_date(field: &[u8]) -> DateField
         return DateField::Form;
     }
     let date = date_of(field);
+    if is_zero_date(date) {
+        return DateField::None;
+    }
     if valid_date(date) {
         DateField::Is(date)
     } else {

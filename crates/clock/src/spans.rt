@@ -1,6 +1,9 @@
 // Seconds counted over the days, and the pre-trigger time.
 use crate::Date;
+use crate::Moment;
+use crate::Pretrigger;
 use crate::Span;
+use crate::Stamp;
 use crate::Time;
 use crate::dates::day_number;
 use crate::times::second_of_day;
@@ -8,7 +11,7 @@ ghost use mathlib.Core.Path.{_≡_};
 ghost use mathlib.Core.Bool.{true};
 ghost use Rattle.clock.specs.Dates.{validDate};
 ghost use Rattle.clock.specs.Times.{validTime};
-ghost use Rattle.clock.specs.Spans.{secondNumber, preTrigger};
+ghost use Rattle.clock.specs.Spans.{secondNumber, preTrigger, Calendar, pretriggerOf};
 
 // The number of the second.
 pub fn second_number(date: Date, time: Time) -> i64
@@ -42,5 +45,29 @@ pub fn pre_trigger(
     Span {
         seconds: less,
         nanoseconds,
+    }
+}
+
+// The time from a first sample that has a date.
+fn pretrigger_from(first: Moment, trigger: Stamp) -> Pretrigger
+    requires { ⌜ Calendar (Stamp.At first) × Calendar trigger ⌝ }
+    ensures { λ r. ⌜ r ≡ pretriggerOf (Stamp.At first) trigger ⌝ }
+{
+    match trigger {
+        Stamp::At(moment) => {
+            Pretrigger::Is(pre_trigger(first.date, first.time, moment.date, moment.time))
+        }
+        Stamp::None => Pretrigger::Unknown,
+    }
+}
+
+// Trigger minus first sample, where both have a date.
+pub fn pretrigger_of(first: Stamp, trigger: Stamp) -> Pretrigger
+    requires { ⌜ Calendar first × Calendar trigger ⌝ }
+    ensures { λ r. ⌜ r ≡ pretriggerOf first trigger ⌝ }
+{
+    match first {
+        Stamp::At(moment) => pretrigger_from(moment, trigger),
+        Stamp::None => Pretrigger::Unknown,
     }
 }

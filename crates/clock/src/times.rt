@@ -5,7 +5,7 @@ ghost use mathlib.Core.Path.{_≡_};
 ghost use mathlib.Core.Bool.{true};
 ghost use Prim.Native.Nat.{_≤_};
 ghost use lib.ListN.{length};
-ghost use Rattle.clock.specs.Times.{validTime, timeForm, fractionOf, timeOf, readTime, secondOfDay};
+ghost use Rattle.clock.specs.Times.{validTime, timeForm, fractionOf, timeOf, readTime, isZeroTime, secondOfDay};
 
 // Whether this is a time of day.
 pub fn valid_time(time: Time) -> bool
@@ -73,6 +73,22 @@ pub fn read_time(field: &[u8]) -> TimeField
     } else {
         TimeField::Range
     }
+}
+
+// Whether this is a time of zeros.
+pub fn is_zero_time(time: Time) -> bool
+    ensures { λ r. ⌜ r ≡ isZeroTime time ⌝ }
+{
+    if time.hour != 0 {
+        return false;
+    }
+    if time.minute != 0 {
+        return false;
+    }
+    if time.second != 0 {
+        return false;
+    }
+    time.nanosecond == 0
 }
 
 // The whole seconds of the day that are gone.

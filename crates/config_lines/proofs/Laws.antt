@@ -1,10 +1,11 @@
 -- Laws of the lines that speak of no channel: what the values are that a line says, and how large those can be that stand beside a fault.
 --     rates-said, rate-said, quality-said      how large and how small: a last row is a row
---     date-told, time-told                     where a date and a time are said
---     date-said                                the date and the time are of the calendar
+--     time-told                                where a time is said
+--     moment-told, none-told                   where a date and a time are said, and where no date is
+--     date-said                                the stamp that is said is of the calendar, or no date
 --     kind-told, kind-said                     where a kind is said; it is one of the edition's
 --     rates-le, rate-le, quality-le            how large with the zeros beside a refusal
---     date-valid                               the date and time of a date line that is fine
+--     date-valid                               and so is the stamp of the code's answer, no date beside a refusal
 -- Assumes nothing.
 use mathlib.Core.Path.{_≡_, refl, ap}
 use mathlib.Core.Bool.{Bool, true}
@@ -19,14 +20,17 @@ use Rattle.text.specs.Fields.{fieldCount, fieldAt}
 use Rattle.fields.specs.declared.KindField.{KindField}
 use Rattle.fields.specs.declared.KindField.the-variants as kind
 use Rattle.fields.specs.Fields.{readCountIn, readQuality, readLeap, readKind}
-use Rattle.clock.specs.declared.Date.{Date}
 use Rattle.clock.specs.declared.Time.{Time}
 use Rattle.clock.specs.declared.DateField.{DateField}
 use Rattle.clock.specs.declared.DateField.the-variants as date
 use Rattle.clock.specs.declared.TimeField.{TimeField}
 use Rattle.clock.specs.declared.TimeField.the-variants as time
-use Rattle.clock.specs.Dates.{validDate, readDate}
-use Rattle.clock.specs.Times.{validTime, readTime}
+use Rattle.clock.specs.declared.Moment.{Moment}
+use Rattle.clock.specs.declared.Stamp.{Stamp}
+use Rattle.clock.specs.declared.Stamp.the-variants as stamp
+use Rattle.clock.specs.Dates.{readDate}
+use Rattle.clock.specs.Times.{readTime, isZeroTime}
+use Rattle.clock.specs.Spans.{Calendar}
 use Rattle.clock.proofs.DateLaws.{read-date-valid}
 use Rattle.clock.proofs.TimeLaws.{read-time-valid}
 use Rattle.model.specs.declared.Kind.{Kind}
@@ -35,12 +39,9 @@ use Rattle.model.specs.Editions.{hasKind}
 use Rattle.line_fields.specs.declared.Fault.{Fault}
 use Rattle.line_fields.specs.Faults.{rateFault}
 use Rattle.line_fields.specs.Checks.{fault, value}
-use Rattle.line_fields.proofs.PlaceLaws.{Ruled, fault-numbered}
 use Rattle.line_fields.proofs.ValueLaws.{value-le, value-ge, quality-small, leap-small, number-told}
-use Rattle.config_lines.specs.Lines.{dateAt, timeAt, ofEdition, kindAt, ratesLine, rateLine, dateLine, kindLine, qualityLine}
+use Rattle.config_lines.specs.Lines.{timeAt, ofEdition, kindAt, ratesLine, rateLine, stampSaid, dateLine, kindLine, qualityLine}
 use Rattle.config_lines.specs.Answers.{countedOf, datedOf, qualityOf}
-use Rattle.config_lines.specs.Inner.{Calendar}
-use Rattle.config_lines.proofs.PlaceLaws.{date-line-ruled}
 
 pub rates-said : (l : List ℕ) (v : ℕ) → ratesLine l ≡ says v → v ≤ 8
 unfolding ratesLine
@@ -75,28 +76,37 @@ quality-said l v e =
       rw (number-told 2 (readLeap (fieldAt 2 l)) (p .0) (p .1)) at (leap-small (fieldAt 2 l)),
     )
 
-pub date-told : (k : ℕ) (f : DateField) (d : Date) → dateAt k f ≡ says d → f ≡ date.Is d
-date-told k (date.Is x) d e = cc
-date-told k date.Form d e = clash (cc)
-date-told k date.Range d e = clash (cc)
-
 pub time-told : (k : ℕ) (f : TimeField) (t : Time) → timeAt k f ≡ says t → f ≡ time.Is t
 time-told k (time.Is x) t e = cc
 time-told k time.Form t e = clash (cc)
 time-told k time.Range t e = clash (cc)
 
-pub date-said : (l : List ℕ) (v : Date × Time) → dateLine l ≡ says v → (validDate (v .0) ≡ true) × (validTime (v .1) ≡ true)
+pub moment-told : (d : DateField) (t : TimeField) (m : Moment) → stampSaid d t ≡ says (stamp.At m) → (d ≡ date.Is (m .date)) × (t ≡ time.Is (m .time))
+moment-told (date.Is x) t m e =
+    let (y, p, z) = bind-told (timeAt 2 t) _ (stamp.At m) e in
+    let w : record { date = x; time = y } ≡ m = cc in
+    rw (← w) (refl, time-told 2 t y p)
+moment-told date.None (time.Is y) m e = let z = must-told (isZeroTime y) (fault 6 1) _ (stamp.At m) e .1 in clash (cc)
+moment-told date.None time.Form m e = clash (cc)
+moment-told date.None time.Range m e = clash (cc)
+moment-told date.Form t m e = clash (cc)
+moment-told date.Range t m e = clash (cc)
+
+pub none-told : (d : DateField) (t : TimeField) → stampSaid d t ≡ says stamp.None → (d ≡ date.None) × (y : Time) × (t ≡ time.Is y) × (isZeroTime y ≡ true)
+none-told (date.Is x) t e = let (y, p, z) = bind-told (timeAt 2 t) _ stamp.None e in clash (cc)
+none-told date.None (time.Is y) e = (refl, y, refl, must-told (isZeroTime y) (fault 6 1) _ stamp.None e .0)
+none-told date.None time.Form e = clash (cc)
+none-told date.None time.Range e = clash (cc)
+none-told date.Form t e = clash (cc)
+none-told date.Range t e = clash (cc)
+
+pub date-said : (l : List ℕ) (s : Stamp) → dateLine l ≡ says s → Calendar s
 unfolding dateLine
-date-said l v e =
-    let f = must-told (eqb (fieldCount l) 2) (fault 4 0) _ v e in
-    let d = bind-told (dateAt 1 (readDate (fieldAt 1 l))) _ v (f .1) in
-    let t = bind-told (timeAt 2 (readTime (fieldAt 2 l))) _ v (d .2) in
-    let z = t .2 in
-    let w : (d .0, t .0) ≡ v = cc in
-    rw (← w) (
-      read-date-valid (fieldAt 1 l) (d .0) (date-told 1 (readDate (fieldAt 1 l)) (d .0) (d .1)),
-      read-time-valid (fieldAt 2 l) (t .0) (time-told 2 (readTime (fieldAt 2 l)) (t .0) (t .1)),
-    )
+date-said l (stamp.At m) e =
+    let f = must-told (eqb (fieldCount l) 2) (fault 4 0) _ (stamp.At m) e in
+    let (d, t) = moment-told (readDate (fieldAt 1 l)) (readTime (fieldAt 2 l)) m (f .1) in
+    (read-date-valid (fieldAt 1 l) (m .date) d, read-time-valid (fieldAt 2 l) (m .time) t)
+date-said l stamp.None e = tt
 
 pub kind-told : (e : Edition) (n : ℕ) (f : KindField) (k : Kind) → kindAt n (ofEdition e f) ≡ says k → (f ≡ kind.Is k) × (hasKind e k ≡ true)
 kind-told e n (kind.Is x) k =
@@ -128,9 +138,9 @@ codes-small (refuses f) h = (omega arith, omega arith)
 pub quality-le : (l : List ℕ) → (qualityOf (qualityLine l) .quality ≤ 15) × (qualityOf (qualityLine l) .leap ≤ 3)
 quality-le l = codes-small (qualityLine l) (quality-said l)
 
-dated-calendar : (x : Said Fault (Date × Time)) → Ruled x → ((v : Date × Time) → x ≡ says v → (validDate (v .0) ≡ true) × (validTime (v .1) ≡ true)) → Calendar (datedOf x)
-dated-calendar (says v) n h e = h v refl
-dated-calendar (refuses f) n h e = absurd (fault-numbered n e)
+dated-calendar : (x : Said Fault Stamp) → ((s : Stamp) → x ≡ says s → Calendar s) → Calendar (datedOf x .stamp)
+dated-calendar (says s) h = h s refl
+dated-calendar (refuses f) h = tt
 
-pub date-valid : (l : List ℕ) → Calendar (datedOf (dateLine l))
-date-valid l = dated-calendar (dateLine l) (date-line-ruled l) (date-said l)
+pub date-valid : (l : List ℕ) → Calendar (datedOf (dateLine l) .stamp)
+date-valid l = dated-calendar (dateLine l) (date-said l)

@@ -6,6 +6,7 @@ use mathlib.Core.List.{List}
 use Prim.Native.Nat.{ℕ, _≤_}
 use lib.Dec.{lit≤, ltb}
 use Rattle.ground.specs.Said.{must}
+use Rattle.ground.proofs.RefusalLaws.{only-must}
 use Rattle.text.specs.Fields.{fieldAt}
 use Rattle.numerals.specs.declared.Count.{Count}
 use Rattle.numerals.specs.declared.Count.the-variants as count
@@ -17,7 +18,7 @@ use Rattle.clock.specs.declared.DateField.the-variants as date
 use Rattle.clock.specs.declared.TimeField.{TimeField}
 use Rattle.clock.specs.declared.TimeField.the-variants as time
 use Rattle.clock.specs.Dates.{readDate}
-use Rattle.clock.specs.Times.{readTime}
+use Rattle.clock.specs.Times.{readTime, isZeroTime}
 use Rattle.codes.specs.declared.Code.{Code}
 use Rattle.codes.specs.declared.Code.the-variants as code
 use Rattle.codes.specs.Codes.{readCode, readLocalCode}
@@ -27,9 +28,10 @@ use Rattle.model.specs.declared.EditionNo.the-variants as edition
 use Rattle.model.specs.Editions.{editionOf}
 use Rattle.line_fields.specs.Faults.{textFault, frequencyFault, aboveFault, rateFault}
 use Rattle.line_fields.specs.Checks.{fault, hasFields, faultless, value}
-use Rattle.line_fields.proofs.PlaceLaws.{form, range, year, Ruled, text-check, frequency-check, above-check, rate-check}
+use Rattle.line_fields.proofs.PlaceLaws.{FaultPlaced, form, range, year, Ruled, text-check, frequency-check, above-check, rate-check}
 use Rattle.line_fields.proofs.PlaceLaws.{has-fields-ruled, then-ruled, bind-ruled, faultless-ruled, agrees-ruled, number-ruled}
-use Rattle.config_lines.specs.Lines.{editionAt, yearAt, dateAt, timeAt, ofEdition, kindAt, codeAt, localAt, stationLine, frequencyLine, ratesLine, rateLine, dateLine, kindLine, multiplierLine, codesLine, qualityLine}
+use Rattle.config_lines.specs.Lines.{editionAt, yearAt, timeAt, noneSaid, stampSaid, ofEdition, kindAt, codeAt, localAt}
+use Rattle.config_lines.specs.Lines.{stationLine, frequencyLine, ratesLine, rateLine, dateLine, kindLine, multiplierLine, codesLine, qualityLine}
 
 -- field k, from the first on
 module _ (k : ℕ) (h : 1 ≤ k) where
@@ -40,11 +42,6 @@ module _ (k : ℕ) (h : 1 ≤ k) where
   year-ruled : (v : Count) → Ruled (yearAt k v)
   year-ruled (count.Is y) = edition-ruled (editionOf y)
   year-ruled count.Form = form k h
-
-  date-ruled : (v : DateField) → Ruled (dateAt k v)
-  date-ruled (date.Is x) = tt
-  date-ruled date.Form = form k h
-  date-ruled date.Range = range k h
 
   time-ruled : (v : TimeField) → Ruled (timeAt k v)
   time-ruled (time.Is x) = tt
@@ -67,6 +64,19 @@ module _ (k : ℕ) (h : 1 ≤ k) where
   local-ruled code.X = tt
   local-ruled code.Form = form k h
   local-ruled code.Range = range k h
+
+-- a time beside a date of zeros: all is told at the date
+none-ruled : (t : TimeField) → Ruled (noneSaid t)
+none-ruled (time.Is x) = then-ruled (must (isZeroTime x) (fault 6 1)) _ (only-must FaultPlaced (isZeroTime x) (fault 6 1) (λ e. range 1 (lit≤ tt))) tt
+none-ruled time.Form = range 1 (lit≤ tt)
+none-ruled time.Range = range 1 (lit≤ tt)
+
+-- a date and a time together
+stamp-ruled : (d : DateField) (t : TimeField) → Ruled (stampSaid d t)
+stamp-ruled (date.Is x) t = bind-ruled (timeAt 2 t) _ (time-ruled 2 (lit≤ tt) t) (λ y. tt)
+stamp-ruled date.None t = none-ruled t
+stamp-ruled date.Form t = form 1 (lit≤ tt)
+stamp-ruled date.Range t = range 1 (lit≤ tt)
 
 -- The lines
 pub station-ruled : (l : List ℕ) → Ruled (stationLine l)
@@ -95,10 +105,7 @@ rate-ruled none before l =
 
 pub date-line-ruled : (l : List ℕ) → Ruled (dateLine l)
 unfolding dateLine
-date-line-ruled l =
-    then-ruled (hasFields 2 l) _ (has-fields-ruled 2 l)
-    (bind-ruled (dateAt 1 (readDate (fieldAt 1 l))) _ (date-ruled 1 (lit≤ tt) (readDate (fieldAt 1 l))) (λ d.
-    bind-ruled (timeAt 2 (readTime (fieldAt 2 l))) _ (time-ruled 2 (lit≤ tt) (readTime (fieldAt 2 l))) (λ t. tt)))
+date-line-ruled l = then-ruled (hasFields 2 l) _ (has-fields-ruled 2 l) (stamp-ruled (readDate (fieldAt 1 l)) (readTime (fieldAt 2 l)))
 
 pub kind-line-ruled : (e : Edition) (l : List ℕ) → Ruled (kindLine e l)
 unfolding kindLine

@@ -1,10 +1,10 @@
--- What the code answers for a line: its values, or its fault and zeros beside it.
+-- What the code answers for a line: its values, or its fault and zeros, or no date, beside it.
 use mathlib.Core.Bool.{Bool, false}
 use Prim.Native.Nat.{ℕ}
 use lib.IntN.{ℤ, pos}
 use Rattle.ground.specs.Said.{Said, says, refuses}
-use Rattle.clock.specs.declared.Date.{Date}
-use Rattle.clock.specs.declared.Time.{Time}
+use Rattle.clock.specs.declared.Stamp.{Stamp}
+use Rattle.clock.specs.declared.Stamp.the-variants.{None}
 use Rattle.model.specs.declared.Kind.{Kind}
 use Rattle.model.specs.declared.Kind.the-variants.{Ascii}
 use Rattle.model.specs.declared.Edition.{Edition}
@@ -28,18 +28,10 @@ abbrev pub countedOf : Said Fault ℕ → Counted
 countedOf (says v) = record { fault = fault 0 0; value = v }
 countedOf (refuses f) = record { fault = f; value = 0 }
 
--- the date of zeros
-abbrev pub noDate : Date
-noDate = record { day = 0; month = 0; year = 0 }
-
--- the time of zeros
-abbrev pub noTime : Time
-noTime = record { hour = 0; minute = 0; second = 0; nanosecond = 0 }
-
--- a date and a time
-abbrev pub datedOf : Said Fault (Date × Time) → Dated
-datedOf (says (d, t)) = record { fault = fault 0 0; date = d; time = t }
-datedOf (refuses f) = record { fault = f; date = noDate; time = noTime }
+-- the stamp, no date beside a refusal
+abbrev pub datedOf : Said Fault Stamp → Dated
+datedOf (says s) = record { fault = fault 0 0; stamp = s }
+datedOf (refuses f) = record { fault = f; stamp = None }
 
 -- the kind, ASCII beside a refusal
 abbrev pub kindedOf : Said Fault Kind → Kinded

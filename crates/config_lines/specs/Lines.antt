@@ -12,14 +12,15 @@ use Rattle.numerals.specs.declared.Count.the-variants as count
 use Rattle.fields.specs.declared.KindField.{KindField}
 use Rattle.fields.specs.declared.KindField.the-variants as kind
 use Rattle.fields.specs.Fields.{readCountIn, readYear, readQuality, readLeap, readKind}
-use Rattle.clock.specs.declared.Date.{Date}
 use Rattle.clock.specs.declared.DateField.{DateField}
 use Rattle.clock.specs.declared.DateField.the-variants as date
 use Rattle.clock.specs.declared.Time.{Time}
 use Rattle.clock.specs.declared.TimeField.{TimeField}
 use Rattle.clock.specs.declared.TimeField.the-variants as time
+use Rattle.clock.specs.declared.Stamp.{Stamp}
+use Rattle.clock.specs.declared.Stamp.the-variants as stamp
 use Rattle.clock.specs.Dates.{readDate}
-use Rattle.clock.specs.Times.{readTime}
+use Rattle.clock.specs.Times.{readTime, isZeroTime}
 use Rattle.codes.specs.declared.Code.{Code}
 use Rattle.codes.specs.declared.Code.the-variants as code
 use Rattle.codes.specs.Codes.{readCode, readLocalCode}
@@ -43,12 +44,6 @@ yearAt k (count.Is y) = editionAt k (editionOf y)
 yearAt k count.Form = refuses (fault 5 k)
 
 -- What was read in field k: 5 for its form, 6 for a value that is not allowed
--- a date
-abbrev pub dateAt : ℕ → DateField → Said Fault Date
-dateAt k (date.Is d) = says d
-dateAt k date.Form = refuses (fault 5 k)
-dateAt k date.Range = refuses (fault 6 k)
-
 -- a time
 abbrev pub timeAt : ℕ → TimeField → Said Fault Time
 timeAt k (time.Is t) = says t
@@ -110,13 +105,28 @@ rateLine none before l = do
   must (ltb before last) (fault 7 2)
   says last
 
--- a date and a time
-unfoldable pub dateLine : List ℕ → Said Fault (Date × Time)
+-- beside a date of zeros: a time of zeros, and there is no date; anything else is 6 at the date
+abbrev pub noneSaid : TimeField → Said Fault Stamp
+noneSaid (time.Is t) = do
+  must (isZeroTime t) (fault 6 1)
+  says stamp.None
+noneSaid time.Form = refuses (fault 6 1)
+noneSaid time.Range = refuses (fault 6 1)
+
+-- what a date and a time say together
+abbrev pub stampSaid : DateField → TimeField → Said Fault Stamp
+stampSaid (date.Is x) t = do
+  y ← timeAt 2 t
+  says (stamp.At (record { date = x; time = y }))
+stampSaid date.None t = noneSaid t
+stampSaid date.Form t = refuses (fault 5 1)
+stampSaid date.Range t = refuses (fault 6 1)
+
+-- a date and a time, or no date
+unfoldable pub dateLine : List ℕ → Said Fault Stamp
 dateLine l = do
   hasFields 2 l
-  d ← dateAt 1 (readDate (fieldAt 1 l))
-  t ← timeAt 2 (readTime (fieldAt 2 l))
-  says (d, t)
+  stampSaid (readDate (fieldAt 1 l)) (readTime (fieldAt 2 l))
 
 -- the kind, which is one of the edition's
 unfoldable pub kindLine : Edition → List ℕ → Said Fault Kind

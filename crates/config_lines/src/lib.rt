@@ -1,7 +1,9 @@
 // The lines of a configuration that speak of no channel, each by itself: how many fields it has, and what each field must say.
-// Each reader answers for any bytes: the line's values, or the number and field of its first refusal with zeros beside it.
+// Each reader answers for any bytes: the line's values, or the number and field of its first refusal with zeros, or no date, beside it.
 use clock::Date;
 use clock::DateField;
+use clock::Moment;
+use clock::Stamp;
 use clock::Time;
 use clock::TimeField;
 use codes::Code;
@@ -20,10 +22,12 @@ use numerals::Count;
 ghost use mathlib.Core.Path.{_≡_};
 ghost use Rattle.model.specs.Editions.{editionOf};
 ghost use Rattle.fields.specs.Fields.{readYear};
+ghost use Rattle.clock.specs.Times.{readTime};
 ghost use Rattle.line_fields.specs.Answers.{faultOf};
-ghost use Rattle.config_lines.specs.Lines.{editionAt, yearAt, stationLine, frequencyLine, ratesLine, rateLine, dateLine, kindLine, multiplierLine, codesLine, qualityLine, ofEdition, kindAt};
-ghost use Rattle.config_lines.specs.Answers.{stationOf, countedOf, noDate, noTime, datedOf, kindedOf, codedOf, qualityOf};
-ghost use Rattle.config_lines.specs.Inner.{withTime, withLocal};
+ghost use Rattle.config_lines.specs.Lines.{editionAt, yearAt, noneSaid, stampSaid, ofEdition, kindAt};
+ghost use Rattle.config_lines.specs.Lines.{stationLine, frequencyLine, ratesLine, rateLine, dateLine, kindLine, multiplierLine, codesLine, qualityLine};
+ghost use Rattle.config_lines.specs.Answers.{stationOf, countedOf, datedOf, kindedOf, codedOf, qualityOf};
+ghost use Rattle.config_lines.specs.Inner.{withLocal};
 
 pub struct Station {
     pub fault: Fault,
@@ -37,8 +41,7 @@ pub struct Counted {
 
 pub struct Dated {
     pub fault: Fault,
-    pub date: Date,
-    pub time: Time,
+    pub stamp: Stamp,
 }
 
 pub struct Kinded {
@@ -164,50 +167,65 @@ pub fn rate_line(line: &[u8], none: bool, before: u64) -> Counted
     count_said(0, 0, last.value)
 }
 
-fn no_date(number: u32, field: u32) -> Dated
-    ensures { λ r. ⌜ r ≡ record { fault = record { number = number; field = field }; date = noDate; time = noTime } ⌝ }
+fn dated_said(number: u32, field: u32, stamp: Stamp) -> Dated
+    ensures { λ r. ⌜ r ≡ record { fault = record { number = number; field = field }; stamp = stamp } ⌝ }
 {
     Dated {
         fault: at(number, field),
-        date: Date {
-            day: 0,
-            month: 0,
-            year: 0,
-        },
-        time: Time {
-            hour: 0,
-            minute: 0,
-            second: 0,
-            nanosecond: 0,
-        },
+        stamp: stamp,
     }
 }
 
 // A date and the time in a field.
 fn with_time(date: Date, field: &[u8]) -> Dated
-    ensures { λ r. ⌜ r ≡ datedOf (withTime date (now (field .entry))) ⌝ }
+    ensures { λ r. ⌜ r ≡ datedOf (stampSaid (DateField.Is date) (readTime (now (field .entry)))) ⌝ }
 {
     match clock::read_time(field) {
-        TimeField::Form => no_date(5, 2),
-        TimeField::Range => no_date(6, 2),
-        TimeField::Is(time) => Dated {
-            fault: at(0, 0),
-            date: date,
-            time: time,
-        },
+        TimeField::Form => dated_said(5, 2, Stamp::None),
+        TimeField::Range => dated_said(6, 2, Stamp::None),
+        TimeField::Is(time) => dated_said(
+            0,
+            0,
+            Stamp::At(Moment {
+                date: date,
+                time: time,
+            }),
+        ),
     }
 }
 
-// A date and a time.
+// A time of day beside a date of zeros.
+fn beside_none(time: Time) -> Dated
+    ensures { λ r. ⌜ r ≡ datedOf (noneSaid (TimeField.Is time)) ⌝ }
+{
+    if !clock::is_zero_time(time) {
+        return dated_said(6, 1, Stamp::None);
+    }
+    dated_said(0, 0, Stamp::None)
+}
+
+// A date of zeros and the time in a field.
+fn none_said(field: &[u8]) -> Dated
+    ensures { λ r. ⌜ r ≡ datedOf (noneSaid (readTime (now (field .entry)))) ⌝ }
+{
+    match clock::read_time(field) {
+        TimeField::Form => dated_said(6, 1, Stamp::None),
+        TimeField::Range => dated_said(6, 1, Stamp::None),
+        TimeField::Is(time) => beside_none(time),
+    }
+}
+
+// A date and a time, or no date.
 pub fn date_line(line: &[u8]) -> Dated
     ensures { λ r. ⌜ r ≡ datedOf (dateLine (now (line .entry))) ⌝ }
 {
     if text::field_count(line) != 2 {
-        return no_date(4, 0);
+        return dated_said(4, 0, Stamp::None);
     }
     match clock::read_date(text::field_at(line, 1)) {
-        DateField::Form => no_date(5, 1),
-        DateField::Range => no_date(6, 1),
+        DateField::Form => dated_said(5, 1, Stamp::None),
+        DateField::Range => dated_said(6, 1, Stamp::None),
+        DateField::None => none_said(text::field_at(line, 2)),
         DateField::Is(date) => with_time(date, text::field_at(line, 2)),
     }
 }

@@ -4,13 +4,18 @@ use Prim.Native.Nat.{ℕ}
 use lib.IntN.{ℤ, pos}
 use lib.ListN.{getD}
 use Rattle.ground.specs.Tables.{tab}
+use Rattle.clock.specs.declared.Moment.{Moment}
+use Rattle.clock.specs.declared.Stamp.{Stamp}
+use Rattle.clock.specs.declared.Stamp.the-variants as stamp
+use Rattle.clock.specs.declared.Pretrigger.{Pretrigger}
+use Rattle.clock.specs.declared.Pretrigger.the-variants.{Is, Unknown}
+use Rattle.model.specs.declared.Kind.{Kind}
 use Rattle.model.specs.Kinds.{kindNumber}
 use Rattle.model.specs.Editions.{yearOf}
 use Rattle.model.specs.Samples.{none}
 use Rattle.config_rules.specs.declared.Last.{Last}
 use Rattle.config_rules.specs.declared.Last.the-variants.{Lines, Absent}
 use Rattle.config_rules.specs.declared.Config.{Config}
-use Rattle.config_rules.specs.declared.Moment.{Moment}
 use Rattle.row_places.specs.Rows.{boolPlace}
 
 -- channels, rates and rows
@@ -33,19 +38,29 @@ momentPlaces m =
     ∷ pos (m .time .nanosecond)
     ∷ []
 
+-- those of a date line; "there is none" for each where it has no date
+abbrev pub stampPlaces : Stamp → List ℤ
+stampPlaces (stamp.At m) = momentPlaces m
+stampPlaces stamp.None = none ∷ none ∷ none ∷ none ∷ none ∷ none ∷ none ∷ []
+
+-- pre-trigger seconds and nanoseconds; "there is none" for each where the time is unknown
+abbrev pub pretriggerPlaces : Pretrigger → List ℤ
+pretriggerPlaces (Is p) = p .seconds ∷ pos (p .nanoseconds) ∷ []
+pretriggerPlaces Unknown = none ∷ none ∷ []
+
 -- time code, whether the local code is x, local code, quality, leap code; "there is none" for each where the lines are absent
 abbrev pub endPlaces : Last → List ℤ
 endPlaces (Lines e) = e .code ∷ boolPlace (e .x) ∷ e .local ∷ pos (e .quality) ∷ pos (e .leap) ∷ []
 endPlaces Absent = none ∷ none ∷ none ∷ none ∷ none ∷ []
 
 -- pre-trigger seconds and nanoseconds, kind
-abbrev pub startPlaces : Config → List ℤ
-startPlaces c = c .pretrigger .seconds ∷ pos (c .pretrigger .nanoseconds) ∷ pos (kindNumber (c .layout .kind)) ∷ []
+abbrev pub startPlaces : Pretrigger → Kind → List ℤ
+startPlaces p k = pretriggerPlaces p ++ (pos (kindNumber k) ∷ [])
 
 -- those; what the last lines say; the edition's year
 abbrev pub otherPlaces : Config → List ℤ
-otherPlaces c = startPlaces c ++ (endPlaces (c .last) ++ (pos (yearOf (c .layout .edition)) ∷ []))
+otherPlaces c = startPlaces (c .pretrigger) (c .layout .kind) ++ (endPlaces (c .last) ++ (pos (yearOf (c .layout .edition)) ∷ []))
 
 -- the 35 places of a configuration
 unfoldable pub configPlaces : Config → List ℤ
-configPlaces c = (countPlaces c ++ lastPlaces (c .lasts)) ++ ((momentPlaces (c .first) ++ momentPlaces (c .trigger)) ++ otherPlaces c)
+configPlaces c = (countPlaces c ++ lastPlaces (c .lasts)) ++ ((stampPlaces (c .first) ++ stampPlaces (c .trigger)) ++ otherPlaces c)

@@ -1,17 +1,20 @@
 // What an accepted configuration shows as places, whole numbers of 64 bits, as the exported calls show it.
 // Each function gives exactly what the definition of its name says.
+use clock::Moment;
+use clock::Pretrigger;
+use clock::Stamp;
 use config_rules::Config;
 use config_rules::Last;
 use config_rules::LastLines;
-use config_rules::Moment;
 use model::Edition;
+use model::Kind;
 ghost use mathlib.Core.Path.{_≡_};
 ghost use mathlib.Core.List.{[], _∷_, _++_};
 ghost use lib.IntN.{pos};
 ghost use lib.ListN.{length};
 ghost use Rattle.model.specs.Editions.{yearOf};
 ghost use Rattle.config_rules.specs.declared.Last.the-variants.{Lines};
-ghost use Rattle.config_places.specs.Configs.{countPlaces, lastPlaces, momentPlaces, startPlaces, endPlaces, otherPlaces, configPlaces};
+ghost use Rattle.config_places.specs.Configs.{countPlaces, lastPlaces, momentPlaces, stampPlaces, startPlaces, endPlaces, otherPlaces, configPlaces};
 
 // A number of 32 bits as a place.
 fn number_place(v: u32) -> i64
@@ -47,17 +50,25 @@ fn moment_places(moment: Moment) -> [i64; 7]
     ]
 }
 
-// The time before the trigger, and the kind.
-fn start_places(config: Config) -> [i64; 3]
-    ensures { λ r. ⌜ r ≡ startPlaces config ⌝ }
+// The same of a date line, or that it has none.
+fn stamp_places(stamp: Stamp) -> [i64; 7]
+    ensures { λ r. ⌜ r ≡ stampPlaces stamp ⌝ }
 {
-    let layout = config.layout;
-    let kind = layout.kind;
-    [
-        config.pretrigger.seconds,
-        number_place(config.pretrigger.nanoseconds),
-        number_place(kind.number()),
-    ]
+    match stamp {
+        Stamp::At(moment) => moment_places(moment),
+        Stamp::None => [row_places::NONE; 7],
+    }
+}
+
+// The time before the trigger, or that it is unknown; and the kind.
+fn start_places(pretrigger: Pretrigger, kind: Kind) -> [i64; 3]
+    ensures { λ r. ⌜ r ≡ startPlaces pretrigger kind ⌝ }
+{
+    let number = number_place(kind.number());
+    match pretrigger {
+        Pretrigger::Is(span) => [span.seconds, number_place(span.nanoseconds), number],
+        Pretrigger::Unknown => [row_places::NONE, row_places::NONE, number],
+    }
 }
 
 // What the last two lines say.
@@ -119,14 +130,14 @@ fn put_counts(config: Config, d: &mut [i64])
     put_lasts(&lasts, &mut d[4..end]);
 }
 
-// Two dates fill the slice.
-fn put_moments(first: Moment, trigger: Moment, d: &mut [i64])
+// Two date lines fill the slice.
+fn put_stamps(first: Stamp, trigger: Stamp, d: &mut [i64])
     requires { ⌜ length (now d) ≡ 14 ⌝ }
-    ensures { λ _. ⌜ now (d .exit) ≡ momentPlaces first ++ momentPlaces trigger ⌝ }
+    ensures { λ _. ⌜ now (d .exit) ≡ stampPlaces first ++ stampPlaces trigger ⌝ }
 {
     let end = d.len();
-    let one = moment_places(first);
-    let other = moment_places(trigger);
+    let one = stamp_places(first);
+    let other = stamp_places(trigger);
     copy_numbers(&one, &mut d[..7]);
     copy_numbers(&other, &mut d[7..end]);
 }
@@ -149,10 +160,12 @@ fn put_others(config: Config, d: &mut [i64])
     ensures { λ _. ⌜ now (d .exit) ≡ otherPlaces config ⌝ }
 {
     let end = d.len();
-    let places = start_places(config);
-    let last = config.last;
+    let pretrigger = config.pretrigger;
     let layout = config.layout;
+    let kind = layout.kind;
     let edition = layout.edition;
+    let last = config.last;
+    let places = start_places(pretrigger, kind);
     copy_numbers(&places, &mut d[..3]);
     put_end(last, edition, &mut d[3..end]);
 }
@@ -160,10 +173,12 @@ fn put_others(config: Config, d: &mut [i64])
 // The dates and what follows them fill the slice.
 fn put_rest(config: Config, d: &mut [i64])
     requires { ⌜ length (now d) ≡ 23 ⌝ }
-    ensures { λ _. ⌜ now (d .exit) ≡ (momentPlaces (config .first) ++ momentPlaces (config .trigger)) ++ otherPlaces config ⌝ }
+    ensures { λ _. ⌜ now (d .exit) ≡ (stampPlaces (config .first) ++ stampPlaces (config .trigger)) ++ otherPlaces config ⌝ }
 {
     let end = d.len();
-    put_moments(config.first, config.trigger, &mut d[..14]);
+    let first = config.first;
+    let trigger = config.trigger;
+    put_stamps(first, trigger, &mut d[..14]);
     put_others(config, &mut d[14..end]);
 }
 

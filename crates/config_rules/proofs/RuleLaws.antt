@@ -1,5 +1,5 @@
 -- Laws of the rules of a configuration's lines.
---     line-ready     after a line that is fine, the rule after it has what it needs
+--     line-ready     after any line, the rule after it has what it needs
 --     set-past       a store past the end stores nothing
 -- Assumes nothing.
 use mathlib.Core.Path.{_≡_, refl, ap}
@@ -16,7 +16,7 @@ use Rattle.model.specs.declared.Edition.the-variants.{Y2013, Y1999}
 use Rattle.config_rules.specs.declared.Config.{Config}
 use Rattle.config_rules.specs.declared.Rule.{Rule}
 use Rattle.config_rules.specs.declared.Rule.the-variants.{Station, Counts, Analog, Status, Frequency, RateCount, Rate, First, Trigger, KindWord, Multiplier, Codes, Quality, Done}
-use Rattle.config_rules.specs.Inner.{afterAnalog, afterStatus, afterRate, afterMultiplier, withFirst, takeLine, Ready}
+use Rattle.config_rules.specs.Inner.{afterAnalog, afterStatus, afterRate, afterMultiplier, takeLine, Ready}
 use lib.Dec.{ltb}
 
 statuses-ready : (i d : ℕ) (c : Config) → Ready (afterStatus i d) c
@@ -32,22 +32,22 @@ unfolding afterMultiplier Ready
 multiplier-ready Y2013 c = tt
 multiplier-ready Y1999 c = tt
 
-pub line-ready : (k : Rule) (c : Config) (l : List ℕ) → takeLine k c l .fault .number ≡ 0 → Ready (takeLine k c l .rule) (takeLine k c l .config)
-unfolding takeLine Ready afterRate withFirst
-line-ready Station c l e = tt
-line-ready Counts c l e = analogs-ready 0 (channelsOf (channelsLine l) .analogs) (channelsOf (channelsLine l) .statuses) _
-line-ready (Analog i) c l e = analogs-ready i (c .layout .analogs) (c .layout .statuses) c
-line-ready (Status i) c l e = statuses-ready i (c .layout .statuses) c
-line-ready Frequency c l e = tt
-line-ready RateCount c l e = tt
-line-ready (Rate i) c l e = on-test (ltb i (c .rates - 1)) (λ p. rw p tt) (λ p. rw p tt)
-line-ready First c l e = date-valid l e
-line-ready Trigger c l e = tt
-line-ready KindWord c l e = tt
-line-ready Multiplier c l e = multiplier-ready (c .layout .edition) c
-line-ready Codes c l e = tt
-line-ready Quality c l e = tt
-line-ready Done c l e = tt
+pub line-ready : (k : Rule) (c : Config) (l : List ℕ) → Ready (takeLine k c l .rule) (takeLine k c l .config)
+unfolding takeLine Ready afterRate
+line-ready Station c l = tt
+line-ready Counts c l = analogs-ready 0 (channelsOf (channelsLine l) .analogs) (channelsOf (channelsLine l) .statuses) _
+line-ready (Analog i) c l = analogs-ready i (c .layout .analogs) (c .layout .statuses) c
+line-ready (Status i) c l = statuses-ready i (c .layout .statuses) c
+line-ready Frequency c l = tt
+line-ready RateCount c l = tt
+line-ready (Rate i) c l = on-test (ltb i (c .rates - 1)) (λ p. rw p tt) (λ p. rw p tt)
+line-ready First c l = date-valid l
+line-ready Trigger c l = tt
+line-ready KindWord c l = tt
+line-ready Multiplier c l = multiplier-ready (c .layout .edition) c
+line-ready Codes c l = tt
+line-ready Quality c l = tt
+line-ready Done c l = tt
 
 -- a store past the end
 pub set-past : (l : List ℕ) (i v : ℕ) → length l ≤ i → set l i v ≡ l

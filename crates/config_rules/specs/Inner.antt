@@ -1,28 +1,26 @@
 -- NOTHING TO BELIEVE HERE: what each function of the code says, line by line; the law `paper-agrees` (proofs/PaperLaws.antt) of the crate `config` says that all of them together are `readConfig`.
 -- A configuration is read line by line. The rule of a line says what the line must be, what it adds to the configuration, and which rule comes next.
-use mathlib.Core.Bool.{Bool, true}
-use mathlib.Core.Path.{_≡_}
+use mathlib.Core.Bool.{Bool}
 use mathlib.Core.List.{List}
 use Prim.Native.Nat.{ℕ, _+_, _-_}
 use lib.Dec.{eqb, ltb}
-use lib.IntN.{ℤ, pos}
+use lib.IntN.{ℤ}
 use lib.ListN.{set}
 use Rattle.ground.specs.Choice.{if_then_else_}
 use Rattle.model.specs.declared.Edition.{Edition}
 use Rattle.model.specs.declared.Edition.the-variants.{Y2013, Y1999}
 use Rattle.line_fields.specs.declared.Fault.{Fault}
-use Rattle.config_lines.specs.declared.Dated.{Dated}
 use Rattle.line_fields.specs.Checks.{fault}
 use Rattle.line_fields.specs.Answers.{faultOf}
 use Rattle.channel_lines.specs.Channels.{channelsLine, analogLine, statusLine}
 use Rattle.channel_lines.specs.Answers.{channelsOf}
 use Rattle.config_lines.specs.Lines.{stationLine, frequencyLine, ratesLine, rateLine, dateLine, kindLine, multiplierLine, codesLine, qualityLine}
 use Rattle.config_lines.specs.Answers.{stationOf, countedOf, datedOf, kindedOf, codedOf, qualityOf}
-use Rattle.clock.specs.declared.Span.{Span}
-use Rattle.clock.specs.Dates.{validDate}
-use Rattle.clock.specs.Times.{validTime}
-use Rattle.clock.specs.Spans.{preTrigger}
-use Rattle.config_rules.specs.declared.Moment.{Moment}
+use Rattle.clock.specs.declared.Stamp.{Stamp}
+use Rattle.clock.specs.declared.Stamp.the-variants.{None}
+use Rattle.clock.specs.declared.Pretrigger.{Pretrigger}
+use Rattle.clock.specs.declared.Pretrigger.the-variants.{Unknown}
+use Rattle.clock.specs.Spans.{Calendar, pretriggerOf}
 use Rattle.config_rules.specs.declared.Last.{Last}
 use Rattle.config_rules.specs.declared.Last.the-variants.{Lines, Absent}
 use Rattle.config_rules.specs.declared.Config.{Config}
@@ -87,23 +85,18 @@ withRows lasts v c =
 unfoldable pub withLast : ℕ → ℕ → Config → Config
 withLast i v c = withRows (set (c .lasts) i v) v c
 
--- the first sample
-unfoldable pub withFirst : Moment → Config → Config
-withFirst m c =
+-- the two date lines, and the time between them
+abbrev pub withStamps : Stamp → Stamp → Pretrigger → Config → Config
+withStamps first trigger pretrigger c =
     record {
       layout = c .layout;
       rates = c .rates;
       lasts = c .lasts;
-      first = m;
-      trigger = c .trigger;
-      pretrigger = c .pretrigger;
+      first = first;
+      trigger = trigger;
+      pretrigger = pretrigger;
       last = c .last;
     }
-
--- the trigger, and the time before it
-unfoldable pub withTrigger : Moment → Span → Config → Config
-withTrigger m p c =
-    record { layout = c .layout; rates = c .rates; lasts = c .lasts; first = c .first; trigger = m; pretrigger = p; last = c .last }
 
 -- what the last lines say
 abbrev pub withEnd : Last → Config → Config
@@ -131,14 +124,6 @@ qualified q p Absent = Absent
 unfoldable pub withQuality : ℕ → ℕ → Config → Config
 withQuality q p c = withEnd (qualified q p (c .last)) c
 
--- trigger minus first sample, where there is a trigger
-unfoldable pub spanTo : Moment → Dated → Span
-spanTo first d = if eqb (d .fault .number) 0 then preTrigger (first .date) (first .time) (d .date) (d .time) else record { seconds = pos 0; nanoseconds = 0 }
-
--- a date line's moment
-abbrev pub moment : Dated → Moment
-moment d = record { date = d .date; time = d .time }
-
 -- a line that was judged
 abbrev pub taken : Fault → Rule → Config → Taken
 taken fault rule config = record { fault = fault; rule = rule; config = config }
@@ -154,15 +139,15 @@ takeLine (Status i) c l = taken (faultOf (statusLine i l)) (afterStatus i (c .la
 takeLine Frequency c l = taken (faultOf (frequencyLine l)) RateCount c
 takeLine RateCount c l = let k = countedOf (ratesLine l) in taken (k .fault) (Rate 0) (withRates (k .value) c)
 takeLine (Rate i) c l = let k = countedOf (rateLine (eqb (c .rates) 0) (c .layout .rows) l) in taken (k .fault) (afterRate i (c .rates)) (withLast i (k .value) c)
-takeLine First c l = let k = datedOf (dateLine l) in taken (k .fault) Trigger (withFirst (moment k) c)
-takeLine Trigger c l = let k = datedOf (dateLine l) in taken (k .fault) KindWord (withTrigger (moment k) (spanTo (c .first) k) c)
+takeLine First c l = let k = datedOf (dateLine l) in taken (k .fault) Trigger (withStamps (k .stamp) None Unknown c)
+takeLine Trigger c l = let k = datedOf (dateLine l) in taken (k .fault) KindWord (withStamps (c .first) (k .stamp) (pretriggerOf (c .first) (k .stamp)) c)
 takeLine KindWord c l = let k = kindedOf (kindLine (c .layout .edition) l) in taken (k .fault) Multiplier (withKind (k .kind) c)
 takeLine Multiplier c l = taken (faultOf (multiplierLine l)) (afterMultiplier (c .layout .edition)) c
 takeLine Codes c l = let k = codedOf (codesLine l) in taken (k .fault) Quality (withCodes (k .code) (k .x) (k .local) c)
 takeLine Quality c l = let k = qualityOf (qualityLine l) in taken (k .fault) Done (withQuality (k .quality) (k .leap) c)
 takeLine Done c l = taken (fault 0 0) Done c
 
--- the trigger's line comes after a first sample of the calendar
+-- the trigger's line comes after a first sample of the calendar, or of no date
 unfoldable pub Ready : Rule → Config → Type 0
 Ready Station c = Unit {0}
 Ready Counts c = Unit {0}
@@ -172,7 +157,7 @@ Ready Frequency c = Unit {0}
 Ready RateCount c = Unit {0}
 Ready (Rate i) c = Unit {0}
 Ready First c = Unit {0}
-Ready Trigger c = (validDate (c .first .date) ≡ true) × (validTime (c .first .time) ≡ true)
+Ready Trigger c = Calendar (c .first)
 Ready KindWord c = Unit {0}
 Ready Multiplier c = Unit {0}
 Ready Codes c = Unit {0}

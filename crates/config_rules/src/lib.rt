@@ -1,26 +1,14 @@
 // The rules of a configuration's lines: what a line must be, what it adds to the configuration, and which rule comes next.
 // Each function gives exactly what the definition of its name says, on any bytes; the rule of a line is found from what the lines before it said, never from the bytes.
-use clock::Date;
-use clock::Span;
-use clock::Time;
-use config_lines::Dated;
+use clock::Pretrigger;
+use clock::Stamp;
 use line_fields::Fault;
 use model::Edition;
 use model::Kind;
 use model::Layout;
 ghost use mathlib.Core.Path.{_≡_};
-ghost use mathlib.Core.Bool.{true};
 ghost use Rattle.config_rules.specs.Shown.{withKind};
-ghost use Rattle.config_rules.specs.Inner.{afterAnalog, afterStatus, afterRate, afterMultiplier, withEdition, withLast, withEnd, qualified, takeLine, spanTo, Ready};
-ghost use Rattle.config_lines.specs.Inner.{Calendar};
-ghost use Rattle.clock.specs.Dates.{validDate};
-ghost use Rattle.clock.specs.Times.{validTime};
-
-// A date and a time.
-pub struct Moment {
-    pub date: Date,
-    pub time: Time,
-}
+ghost use Rattle.config_rules.specs.Inner.{afterAnalog, afterStatus, afterRate, afterMultiplier, withEdition, withLast, withStamps, withEnd, qualified, takeLine, Ready};
 
 // What the last two lines say, where the edition has them: time code, whether the local code is x, local code, quality, leap second code.
 pub struct LastLines {
@@ -42,9 +30,9 @@ pub struct Config {
     pub layout: Layout,
     pub rates: u32,
     pub lasts: [u32; 8],
-    pub first: Moment,
-    pub trigger: Moment,
-    pub pretrigger: Span,
+    pub first: Stamp,
+    pub trigger: Stamp,
+    pub pretrigger: Pretrigger,
     pub last: Last,
 }
 
@@ -156,6 +144,24 @@ fn with_kind(c: Config, kind: Kind) -> Config
     e
 }
 
+// The configuration with its two date lines and the time between them.
+fn with_stamps(c: Config, first: Stamp, trigger: Stamp, pretrigger: Pretrigger) -> Config
+    ensures { λ r. ⌜ r ≡ withStamps first trigger pretrigger c ⌝ }
+{
+    let layout = c.layout;
+    let lasts = c.lasts;
+    let last = c.last;
+    Config {
+        layout: layout,
+        rates: c.rates,
+        lasts: lasts,
+        first: first,
+        trigger: trigger,
+        pretrigger: pretrigger,
+        last: last,
+    }
+}
+
 // The configuration with what the last lines say.
 fn with_end(c: Config, last: Last) -> Config
     ensures { λ r. ⌜ r ≡ withEnd last c ⌝ }
@@ -235,62 +241,35 @@ fn take_rate(line: &[u8], c: Config, i: u32) -> Taken
     )
 }
 
-// The first sample's date and time.
+// The first sample's date and time, or that it has none; of the trigger nothing is known yet.
 fn take_first(line: &[u8], c: Config) -> Taken
     ensures { λ r. ⌜ r ≡ takeLine Rule.First c (now (line .entry)) ⌝ }
 {
     let k = config_lines::date_line(line);
     let fault = k.fault;
-    let date = k.date;
-    let time = k.time;
-    let first = Moment {
-        date: date,
-        time: time,
-    };
-    let mut e = c;
-    e.first = first;
-    judged(fault, Rule::Trigger, e)
+    let first = k.stamp;
+    judged(
+        fault,
+        Rule::Trigger,
+        with_stamps(c, first, Stamp::None, Pretrigger::Unknown),
+    )
 }
 
-// Trigger minus first sample, where there is a trigger.
-fn span_to(first: Moment, k: Dated) -> Span
-    requires { ⌜ (validDate (first .date) ≡ true) × (validTime (first .time) ≡ true) ⌝ }
-    requires { ⌜ Calendar k ⌝ }
-    ensures { λ r. ⌜ r ≡ spanTo first k ⌝ }
-{
-    let fault = k.fault;
-    if fault.number != 0 {
-        return Span {
-            seconds: 0,
-            nanoseconds: 0,
-        };
-    }
-    let a = first.date;
-    let b = first.time;
-    let d = k.date;
-    let e = k.time;
-    clock::pre_trigger(a, b, d, e)
-}
-
-// The trigger's date and time, and the time before it.
+// The trigger's date and time, or that it has none, and the time before it.
 fn take_trigger(line: &[u8], c: Config) -> Taken
     requires { ⌜ Ready Rule.Trigger c ⌝ }
     ensures { λ r. ⌜ r ≡ takeLine Rule.Trigger c (now (line .entry)) ⌝ }
 {
     let k = config_lines::date_line(line);
     let fault = k.fault;
+    let trigger = k.stamp;
     let first = c.first;
-    let span = span_to(first, k);
-    let date = k.date;
-    let time = k.time;
-    let trigger = Moment {
-        date: date,
-        time: time,
-    };
-    let mut e = c;
-    e.trigger = trigger;
-    e.pretrigger = span;
-    judged(fault, Rule::KindWord, e)
+    let pretrigger = clock::pretrigger_of(first, trigger);
+    judged(
+        fault,
+        Rule::KindWord,
+        with_stamps(c, first, trigger, pretrigger),
+    )
 }
 
 // The kind's word.

@@ -1,16 +1,17 @@
--- LINES THAT AN EDITION LACKS, in the places that zl_config shows: told as absent, and never as a number.
---     config-none     demand 2: a place that zl_config shows is the number for "there is none" exactly where it is that of a last line and these are absent
+-- WHAT A CONFIGURATION LACKS, in the places that zl_config shows: no date, an unknown time, lines that the edition has not. Told as "there is none", and never as a number.
+--     NoneShown       which of the 35 places are the number for "there is none", and where
+--     config-none     demand 2: of the places that zl_config shows these are it, and no other
 -- Assumes nothing.
 use mathlib.Core.Path.{_≡_, refl, sym, ap, subst, _∙_}
-use mathlib.Core.Logic.{_↔_, _⊎_, ⊎-elim}
-use mathlib.Core.Bool.{Bool, true, false, not, _&&_}
-use mathlib.Core.List.{List, [], _∷_, _++_}
+use mathlib.Core.Logic.{_↔_}
+use mathlib.Core.Bool.{Bool, true, false, not}
+use mathlib.Core.List.{List, [], _∷_, _++_, append-assoc}
 use Prim.Native.Nat.{ℕ, zero, suc, _+_, _-_, _*_, _^_, _≤_, _<_}
 use native.Mathlib.Omega.{arith}
 use borrow.Author.Tests.{ne-eqb}
 use lib.Dec.{ltb, leb}
-use lib.IntN.{ℤ, pos, negsuc, subℕ, _-ℤ_}
-use lib.ListN.{getD, List·getD-append}
+use lib.IntN.{ℤ, pos, subℕ, _-ℤ_}
+use lib.ListN.{length, getD, replicate, List·getD-append}
 use lib.Seq.{getD-append-add}
 use Rattle.ground.specs.Said.{says}
 use Rattle.ground.specs.Tables.{every}
@@ -19,6 +20,7 @@ use Rattle.ground.proofs.Every.{and-split}
 use Rattle.words.specs.Signed.{isLowest}
 use Rattle.model.specs.declared.Edition.{Edition}
 use Rattle.model.specs.declared.Edition.the-variants.{Y2013, Y1999}
+use Rattle.model.specs.Kinds.{kindNumber}
 use Rattle.model.specs.Editions.{yearOf}
 use Rattle.model.specs.Samples.{none, isNone}
 use Rattle.model.proofs.SampleLaws.{none-is}
@@ -26,23 +28,28 @@ use Rattle.clock.specs.declared.Date.{Date}
 use Rattle.clock.specs.declared.Time.{Time}
 use Rattle.clock.specs.Dates.{validDate}
 use Rattle.clock.specs.Times.{validTime}
-use Rattle.clock.specs.Spans.{spanOf, preTrigger}
+use Rattle.clock.specs.declared.Span.{Span}
+use Rattle.clock.specs.declared.Moment.{Moment}
+use Rattle.clock.specs.declared.Stamp.{Stamp}
+use Rattle.clock.specs.declared.Stamp.the-variants.{At, None}
+use Rattle.clock.specs.declared.Pretrigger.{Pretrigger}
+use Rattle.clock.specs.declared.Pretrigger.the-variants.{Is, Unknown}
+use Rattle.clock.specs.Spans.{spanOf, preTrigger, Calendar, pretriggerOf}
 use Rattle.clock.proofs.SpanLaws.{second-size, less-one}
 use Rattle.config_rules.specs.declared.LastLines.{LastLines}
 use Rattle.config_rules.specs.declared.Last.{Last}
 use Rattle.config_rules.specs.declared.Last.the-variants.{Lines, Absent}
 use Rattle.config_rules.specs.declared.Config.{Config}
 use Rattle.row_places.specs.Rows.{boolPlace}
-use Rattle.config_places.specs.Configs.{countPlaces, lastPlaces, momentPlaces, startPlaces, endPlaces, configPlaces}
-use Rattle.config_places.proofs.ConfigLaws.{end-places}
+use Rattle.config_places.specs.Configs.{countPlaces, lastPlaces, momentPlaces, stampPlaces, pretriggerPlaces, endPlaces, otherPlaces, configPlaces}
+use Rattle.config_places.proofs.ConfigLaws.{stamp-places, pretrigger-places, end-places}
 use Rattle.calls_config.specs.Calls.{configCall}
 use Rattle.paper.specs.Fields as page
 use Rattle.paper.specs.Fields.{CodeField}
 use Rattle.paper.specs.Lines.{LocalField}
 use Rattle.paper.specs.Configuration.{EndLines, Configuration}
-use Rattle.exact.proofs.ClockLaws.{day-exactly}
-use Rattle.exact.proofs.TimeLaws.{time-valid}
-use Rattle.exact.proofs.CalendarLaws.{pretrigger-exactly}
+use Rattle.exact_config.proofs.LineLaws.{stamp-calendar}
+use Rattle.exact_config.proofs.ExactLaws.{pre-is}
 use Rattle.demands.proofs.Exported.{config-shown}
 
 -- a number that is a value
@@ -108,78 +115,140 @@ lines-there Y2013 x t (y, l, m, q, codes, quality, r) =
     let k : y ≡ x = cc in
     rw (← k, code-there (y .code) (codes .is .f 1) (codes .is .time), bool-there (y .x), local-there (y .local) (y .x) (codes .is .f 2) (codes .is .place))
 
-absent-at : (i : ℕ) → i < 5 → getD (endPlaces Absent) i (pos 0) ≡ none
-absent-at zero h = refl
-absent-at (suc zero) h = refl
-absent-at (suc (suc zero)) h = refl
-absent-at (suc (suc (suc zero))) h = refl
-absent-at (suc (suc (suc (suc zero)))) h = refl
-absent-at (suc (suc (suc (suc (suc i))))) h = absurd (omega arith)
+-- places of which each is the number for "there is none"
+none-at : (n i : ℕ) → i < n → getD (replicate n none) i (pos 0) ≡ none
+none-at zero i h = absurd (omega arith)
+none-at (suc n) zero h = refl
+none-at (suc n) (suc i) h = none-at n i (omega arith)
 
-end-none : (e : Edition) (v : Last) (t : List ℕ) → EndLines e v t → (i : ℕ) → i < 5 → getD (endPlaces v) i (pos 0) ≡ none ↔ v ≡ Absent
-end-none e (Lines x) t w i h = (λ q. absurd (all-there (endPlaces (Lines x)) (lines-there e x t w) i q), λ q. clash (cc))
-end-none e Absent t w i h = (λ q. refl, λ q. absent-at i h)
+-- the places from low to high are that number exactly where P holds
+abbrev pub NoneIn : ℕ → ℕ → Type 0 → List ℤ → Type 0
+NoneIn low high P zs = (j : ℕ) → low ≤ j → j ≤ high → getD zs j (pos 0) ≡ none ↔ P
 
--- the places of a configuration: those in front of the last lines', those of the last lines, the year
+-- values, wherever one looks
+values-none : (n : ℕ) (zs : List ℤ) → AllThere zs → NoneIn 0 n ⊥ zs
+values-none n zs h j x y = (all-there zs h j, λ e. absurd e)
+
+-- places in front
+here-none : (n : ℕ) (P : Type 0) (zs ys : List ℤ) → length zs ≡ suc n → NoneIn 0 n P zs → NoneIn 0 n P (zs ++ ys)
+here-none n P zs ys e h j x y = rw (List·getD-append zs ys (pos 0) j (omega arith)) (h j x y)
+
+-- places behind others
+behind-none : (n low high : ℕ) (P : Type 0) (zs ys : List ℤ) → length zs ≡ n → NoneIn low high P ys → NoneIn (n + low) (n + high) P (zs ++ ys)
+behind-none n low high P zs ys e h j x y =
+    let p : length zs + (j - n) ≡ j = omega arith in
+    let q : getD (zs ++ ys) j (pos 0) ≡ getD ys (j - n) (pos 0) = ap (λ (k : ℕ). getD (zs ++ ys) k (pos 0)) (sym p) ∙ getD-append-add zs ys (j - n) (pos 0) in
+    rw q (h (j - n) (omega arith) (omega arith))
+
+end-none : (e : Edition) (v : Last) (t : List ℕ) → EndLines e v t → NoneIn 0 4 (v ≡ Absent) (endPlaces v)
+end-none e (Lines x) t w j h k = (λ q. absurd (all-there (endPlaces (Lines x)) (lines-there e x t w) j q), λ q. clash (cc))
+end-none e Absent t w j h k = (λ q. refl, λ q. none-at 5 j (omega arith))
+
+moment-there : (m : Moment) → AllThere (momentPlaces m)
+unfolding isNone isLowest
+moment-there m = refl
+
+stamp-none : (s : Stamp) → NoneIn 0 6 (s ≡ None) (stampPlaces s)
+stamp-none (At m) j h k = (λ q. absurd (all-there (momentPlaces m) (moment-there m) j q), λ q. clash (cc))
+stamp-none None j h k = (λ q. refl, λ q. none-at 7 j (omega arith))
+
+span-there : (d : Span) → There (d .seconds) → AllThere (pretriggerPlaces (Is d))
+unfolding isNone isLowest
+span-there d h = rw h
+
+-- the time between two stamps is few seconds, or unknown
+pretrigger-there : (f t : Stamp) → Calendar f → Calendar t → (d : Span) → pretriggerOf f t ≡ Is d → There (d .seconds)
+unfolding pretriggerOf
+pretrigger-there (At a) (At b) h g d e =
+    let q : preTrigger (a .date) (a .time) (b .date) (b .time) ≡ d = cc in
+    rw (← q) (pre-there (a .date) (a .time) (b .date) (b .time) (h .0) (h .1) (g .0) (g .1))
+pretrigger-there (At a) None h g d e = clash (cc)
+pretrigger-there None b h g d e = clash (cc)
+
+pretrigger-none : (f t : Stamp) → Calendar f → Calendar t → (p : Pretrigger) → pretriggerOf f t ≡ p → NoneIn 0 1 (p ≡ Unknown) (pretriggerPlaces p)
+pretrigger-none f t h g (Is d) e j x y = (λ q. absurd (all-there (pretriggerPlaces (Is d)) (span-there d (pretrigger-there f t h g d e)) j q), λ q. clash (cc))
+pretrigger-none f t h g Unknown e j x y = (λ q. refl, λ q. none-at 2 j (omega arith))
+
+-- WHICH OF THE 35 PLACES ARE "there is none": those of a date line exactly where it has no date, those of the pre-trigger time where it is unknown, those of the last lines where these are absent
+pub record NoneShown (c : Config) (zs : List ℤ) : Type 0 where
+  -- channels, rates, rows and last rows never
+  pub counts : NoneIn 0 11 ⊥ zs
+  pub first : NoneIn 12 18 (c .first ≡ None) zs
+  pub trigger : NoneIn 19 25 (c .trigger ≡ None) zs
+  pub pretrigger : NoneIn 26 27 (c .pretrigger ≡ Unknown) zs
+  pub kind : NoneIn 28 28 ⊥ zs
+  pub last : NoneIn 29 33 (c .last ≡ Absent) zs
+  pub edition : NoneIn 34 34 ⊥ zs
+
+-- the places of a configuration, one group behind the other
 module _ (s : List ℕ) (c : Config) (w : Configuration s c) where
-  abbrev front : List ℤ
-  front = (countPlaces c ++ lastPlaces (c .lasts)) ++ ((momentPlaces (c .first) ++ momentPlaces (c .trigger)) ++ startPlaces c)
+  abbrev numbers : List ℤ
+  numbers = countPlaces c ++ lastPlaces (c .lasts)
 
   abbrev year : List ℤ
   year = pos (yearOf (c .layout .edition)) ∷ []
 
-  parts : configPlaces c ≡ front ++ (endPlaces (c .last) ++ year)
+  abbrev fromLast : List ℤ
+  fromLast = endPlaces (c .last) ++ year
+
+  abbrev fromKind : List ℤ
+  fromKind = pos (kindNumber (c .layout .kind)) ∷ fromLast
+
+  abbrev fromPretrigger : List ℤ
+  fromPretrigger = pretriggerPlaces (c .pretrigger) ++ fromKind
+
+  abbrev fromTrigger : List ℤ
+  fromTrigger = stampPlaces (c .trigger) ++ fromPretrigger
+
+  groups : configPlaces c ≡ numbers ++ (stampPlaces (c .first) ++ fromTrigger)
   unfolding configPlaces
-  parts = refl
+  groups =
+      ap (_++_ numbers) (append-assoc (stampPlaces (c .first)) (stampPlaces (c .trigger)) (otherPlaces c)
+      ∙ ap (λ (zs : List ℤ). stampPlaces (c .first) ++ (stampPlaces (c .trigger) ++ zs)) (append-assoc (pretriggerPlaces (c .pretrigger)) (pos (kindNumber (c .layout .kind)) ∷ []) fromLast))
 
-  seconds-there : There (c .pretrigger .seconds)
-  seconds-there =
-      let first = day-exactly (c .first .date) .1 (w .first .is .date .valid) in
-      let time = time-valid (c .first .time) (w .first .is .f 2) (w .first .is .time) in
-      let trigger = day-exactly (c .trigger .date) .1 (w .trigger .is .date .valid) in
-      let last = time-valid (c .trigger .time) (w .trigger .is .f 2) (w .trigger .is .time) in
-      let q = pretrigger-exactly (c .first) (c .trigger) first time trigger last (c .pretrigger) .1 (w .pretrigger) in
-      rw (← q) (pre-there (c .first .date) (c .first .time) (c .trigger .date) (c .trigger .time) first time trigger last)
-
-  front-there : AllThere front
+  numbers-there : AllThere numbers
   unfolding isNone isLowest
-  front-there = rw seconds-there
+  numbers-there = refl
+
+  kind-there : AllThere (pos (kindNumber (c .layout .kind)) ∷ [])
+  unfolding isNone isLowest
+  kind-there = refl
 
   year-there : AllThere year
   unfolding isNone isLowest
   year-there = refl
 
-  front-none : (j : ℕ) → j < 29 → getD (configPlaces c) j (pos 0) ≡ none → ⊥
-  front-none j h e = all-there front front-there j (sym (List·getD-append front (endPlaces (c .last) ++ year) (pos 0) j h) ∙ ap (λ (zs : List ℤ). getD zs j (pos 0)) (sym parts) ∙ e)
+  pub pretrigger-is : pretriggerOf (c .first) (c .trigger) ≡ c .pretrigger
+  pretrigger-is = pre-is (c .first) (c .trigger) (w .l7) (w .m7) (c .pretrigger) (w .first .is) (w .trigger .is) .1 (w .pretrigger)
 
-  behind : (i : ℕ) → getD (configPlaces c) (29 + i) (pos 0) ≡ getD (endPlaces (c .last) ++ year) i (pos 0)
-  behind i = rw parts (getD-append-add front (endPlaces (c .last) ++ year) i (pos 0))
+  past-stamps : (low high : ℕ) (P : Type 0) → NoneIn low high P fromPretrigger → NoneIn (12 + (7 + (7 + low))) (12 + (7 + (7 + high))) P (numbers ++ (stampPlaces (c .first) ++ fromTrigger))
+  past-stamps low high P h =
+      behind-none 12 (7 + (7 + low)) (7 + (7 + high)) P numbers (stampPlaces (c .first) ++ fromTrigger) refl
+      (behind-none 7 (7 + low) (7 + high) P (stampPlaces (c .first)) fromTrigger (stamp-places (c .first))
+      (behind-none 7 low high P (stampPlaces (c .trigger)) fromPretrigger (stamp-places (c .trigger)) h))
 
-  last-none : (j : ℕ) → 29 ≤ j → j ≤ 33 → getD (configPlaces c) j (pos 0) ≡ none ↔ c .last ≡ Absent
-  last-none j x y =
-      let i = j - 29 in
-      let p : 29 + i ≡ j = omega arith in
-      let q = behind i ∙ List·getD-append (endPlaces (c .last)) year (pos 0) i (rw (end-places (c .last)) (omega arith)) in
-      rw (← p, q) (end-none (c .layout .edition) (c .last) (w .t10) (w .last) i (omega arith))
-
-  year-none : (j : ℕ) → 34 ≤ j → getD (configPlaces c) j (pos 0) ≡ none → ⊥
-  year-none j x e =
-      let i = j - 34 in
-      let p : 29 + (5 + i) ≡ j = omega arith in
-      all-there year year-there i (sym (at-year i) ∙ ap (λ (k : ℕ). getD (configPlaces c) k (pos 0)) p ∙ e)
-    where
-      at-year : (i : ℕ) → getD (configPlaces c) (29 + (5 + i)) (pos 0) ≡ getD year i (pos 0)
-      at-year i = behind (5 + i) ∙ rw (← end-places (c .last)) (getD-append-add (endPlaces (c .last)) year i (pos 0))
-
--- of places: those of the last lines, 29 to 33, are the number for "there is none" exactly where the lines are absent, and no other ever is
-abbrev pub LastNone : Config → List ℤ → Type 0
-LastNone c zs = (j : ℕ) → 29 ≤ j → j ≤ 33 → getD zs j (pos 0) ≡ none ↔ c .last ≡ Absent
-
-abbrev pub OthersThere : List ℤ → Type 0
-OthersThere zs = (j : ℕ) → (j < 29) ⊎ (34 ≤ j) → getD zs j (pos 0) ≡ none → ⊥
+  shown-none : NoneShown c (numbers ++ (stampPlaces (c .first) ++ fromTrigger))
+  shown-none = record {
+    counts = here-none 11 ⊥ numbers (stampPlaces (c .first) ++ fromTrigger) refl (values-none 11 numbers numbers-there);
+    first = behind-none 12 0 6 (c .first ≡ None) numbers (stampPlaces (c .first) ++ fromTrigger) refl
+        (here-none 6 (c .first ≡ None) (stampPlaces (c .first)) fromTrigger (stamp-places (c .first)) (stamp-none (c .first)));
+    trigger = behind-none 12 7 13 (c .trigger ≡ None) numbers (stampPlaces (c .first) ++ fromTrigger) refl
+        (behind-none 7 0 6 (c .trigger ≡ None) (stampPlaces (c .first)) fromTrigger (stamp-places (c .first))
+        (here-none 6 (c .trigger ≡ None) (stampPlaces (c .trigger)) fromPretrigger (stamp-places (c .trigger)) (stamp-none (c .trigger))));
+    pretrigger = past-stamps 0 1 (c .pretrigger ≡ Unknown) (here-none 1 (c .pretrigger ≡ Unknown) (pretriggerPlaces (c .pretrigger)) fromKind (pretrigger-places (c .pretrigger))
+        (pretrigger-none (c .first) (c .trigger) (stamp-calendar (c .first) (w .l7) (w .first .is)) (stamp-calendar (c .trigger) (w .m7) (w .trigger .is)) (c .pretrigger) pretrigger-is));
+    kind = past-stamps 2 2 ⊥ (behind-none 2 0 0 ⊥ (pretriggerPlaces (c .pretrigger)) fromKind (pretrigger-places (c .pretrigger))
+        (here-none 0 ⊥ (pos (kindNumber (c .layout .kind)) ∷ []) fromLast refl (values-none 0 (pos (kindNumber (c .layout .kind)) ∷ []) kind-there)));
+    last = past-stamps 3 7 (c .last ≡ Absent) (behind-none 2 1 5 (c .last ≡ Absent) (pretriggerPlaces (c .pretrigger)) fromKind (pretrigger-places (c .pretrigger))
+        (behind-none 1 0 4 (c .last ≡ Absent) (pos (kindNumber (c .layout .kind)) ∷ []) fromLast refl
+        (here-none 4 (c .last ≡ Absent) (endPlaces (c .last)) year (end-places (c .last)) (end-none (c .layout .edition) (c .last) (w .t10) (w .last)))));
+    edition = past-stamps 8 8 ⊥ (behind-none 2 6 6 ⊥ (pretriggerPlaces (c .pretrigger)) fromKind (pretrigger-places (c .pretrigger))
+        (behind-none 1 5 5 ⊥ (pos (kindNumber (c .layout .kind)) ∷ []) fromLast refl
+        (behind-none 5 0 0 ⊥ (endPlaces (c .last)) year (end-places (c .last)) (values-none 0 year year-there))));
+  }
 
 -- DEMAND 2. So of the places that zl_config shows
-pub config-none : (s : List ℕ) (room : ℕ) (zs : List ℤ) → configCall s room ≡ says zs → (c : Config) × Configuration s c × LastNone c zs × OthersThere zs
+pub config-none : (s : List ℕ) (room : ℕ) (zs : List ℤ) → configCall s room ≡ says zs → (c : Config) × Configuration s c × NoneShown c zs
 config-none s room zs e =
     let (c, w, h, q) = config-shown s room zs .0 e in
-    (c, w, subst (LastNone c) (sym q) (last-none s c w), subst OthersThere (sym q) (λ j. ⊎-elim (front-none s c w j) (year-none s c w j)))
+    (c, w, subst (NoneShown c) (sym (q ∙ groups s c w)) (shown-none s c w))

@@ -2,7 +2,7 @@
 -- these are theorems on the definitions that its contracts cite.
 --     Ends, Lent              what a lent buffer holds at the end: a refusal leaves it as it was, a yes writes what it says and nothing past it
 --     refused-unchanged       so of every call that writes
---     zeros-beside            a refusal has zeros for row, configuration and length beside it
+--     zeros-beside            a refusal has zeros for row and length beside it, and a configuration of zeros, no dates and no last lines
 --     alike, no-such-row      what the check of a file refuses, showing a row of it, the length question and the change refuse alike; 15 comes before the file
 --     as-the-question         the change refuses as the length question does, or else with 17
 --     never-17                the length question never says 17

@@ -6,6 +6,7 @@ pub mod Placed
 pub mod Calls
 pub mod Exported
 pub mod Absent
+pub mod NoDate
 pub mod Recording
 pub mod Vectors
 pub mod Wrong

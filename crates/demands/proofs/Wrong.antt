@@ -26,6 +26,13 @@
 --     edition-lost                    the change goes by 2013, whatever the edition
 --     every-kind-taken                a change is refused with 10 by the sizes alone
 --     last-lines-shown-as-zeros, year-1999-told-as-2013     what a configuration of 1999 shows
+--     zero-dates-refused              a date line of zeros is never accepted
+--     moment-told-where-none          where there is no date a moment is shown: of zeros, the trigger's, or any other
+--     time-told-where-unknown         where the pre-trigger time is unknown one is shown
+--     zero-date-with-any-time         a date of zeros is taken beside any time
+--     bad-time-told-at-the-time       and where it is refused, the time's field is told
+--     five-beside-no-date             and where its time is of no form, 5 is told
+--     half-zero-date-taken            a day of zero alone makes it no date
 --     refuses-every-writing           no configuration is written
 --     copies-the-configuration        a configuration is written as it stands, its old kind's word too
 --     shows-the-old-kind              what is written shows the kind that the configuration had
@@ -51,6 +58,17 @@ use Rattle.text.specs.Fields.{fieldCount, afterFields, fieldAt}
 use Rattle.numerals.specs.Counts.{lengthIn, isDigit, numberOf, readCount}
 use Rattle.numerals.specs.Wholes.{signLength, hasMinus, withSign, signedNumber, readWhole}
 use Rattle.numerals.specs.Decimals.{decimalIn, decimal, plain}
+use Rattle.clock.specs.declared.Moment.{Moment}
+use Rattle.clock.specs.declared.Span.{Span}
+use Rattle.clock.specs.declared.Stamp.{Stamp}
+use Rattle.clock.specs.declared.Stamp.the-variants.{At, None}
+use Rattle.clock.specs.declared.Pretrigger.the-variants as known
+use Rattle.patterns.specs.Patterns.{fitsCharacter, fitsPattern, digitsAt}
+use Rattle.clock.specs.Dates.{dateOf, isZeroDate, readDate}
+use Rattle.clock.specs.Times.{timeForm, readTime}
+use Rattle.line_fields.specs.declared.Fault.{Fault}
+use Rattle.line_fields.specs.Checks.{fault}
+use Rattle.config_lines.specs.Lines.{dateLine}
 use Rattle.model.specs.declared.Kind.{Kind}
 use Rattle.model.specs.declared.Kind.the-variants.{Ascii, Binary, Binary32}
 use Rattle.model.specs.declared.Edition.the-variants.{Y2013, Y1999}
@@ -67,6 +85,7 @@ use Rattle.model.specs.Layouts.{isSized, inKind}
 use Rattle.model.specs.Refusals.{refused}
 use Rattle.model.specs.Rows.{zeroRow, sampleAt, misfit}
 use Rattle.config_rules.specs.Shown.{withKind}
+use Rattle.config_rules.specs.declared.Config.{Config}
 use Rattle.config_rules.specs.declared.Last.{Last}
 use Rattle.config_rules.specs.declared.Last.the-variants.{Lines, Absent}
 use Rattle.config.specs.declared.ConfigAnswer.{ConfigAnswer}
@@ -95,7 +114,8 @@ use Rattle.rewrite.specs.Rewrite.{rewritten, rewriteSaid}
 use Rattle.exact_config.proofs.ExactLaws.{config-exactly}
 use Rattle.exact_rewrite.proofs.ExactLaws.{rewritten-exactly, written-accepted, never-long}
 use Rattle.demands.proofs.Calls.{never-17}
-use Rattle.demands.proofs.Recording.{recordingWith, recording, recording1999, lastWith, recordingShows, recording-accepted, accepted-1999, recording-configuration, recording-code}
+use Rattle.demands.proofs.Recording.{recordingWith, recording, recording1999, noClock, recordedAt, lastWith, recordingShows, noClockShows}
+use Rattle.demands.proofs.Recording.{recording-accepted, accepted-1999, recording-configuration, recording-code, no-clock-accepted, zero-date-refused, half-zero-refused}
 use Rattle.demands.proofs.Vectors.{layout, row, of-t1, t1, t2, t3, vectors}
 
 -- T1's rows
@@ -440,8 +460,40 @@ minus-lost e = let q : negℤ (pos 30) ≡ pos 30 = ap codeIn (sym recording-cod
     codeIn Absent = pos 0
 
 -- the recording of the rules: its first sample is 1 ms before its trigger
-pub first-and-trigger-exchanged : (readConfig recording .config .first .time .nanosecond ≡ 1_000_000) × (readConfig recording .config .trigger .time .nanosecond ≡ 0) → ⊥
-first-and-trigger-exchanged (e, g) = eqb-false 0 1_000_000 refl (sym (ap (λ a. a .config .first .time .nanosecond) recording-accepted) ∙ e)
+pub first-and-trigger-exchanged : (readConfig recording .config .first ≡ recordedAt 1_000_000) × (readConfig recording .config .trigger ≡ recordedAt 0) → ⊥
+first-and-trigger-exchanged (e, g) =
+    let q : recordedAt 0 ≡ recordedAt 1_000_000 = sym (ap (λ (a : ConfigAnswer). a .config .first) recording-accepted) ∙ e in
+    eqb-false 0 1_000_000 refl (ap nanosecondIn q)
+  where
+    nanosecondIn : Stamp → ℕ
+    nanosecondIn (At m) = m .time .nanosecond
+    nanosecondIn None = 0
+
+-- the recording of the rules without a clock, and with a date of zeros beside a time of day
+pub zero-dates-refused : ((s : List ℕ) (c : Config) → readConfig s ≡ record { answer = Yes; config = c } → c .first ≡ None → ⊥) → ⊥
+zero-dates-refused f = f noClock noClockShows no-clock-accepted refl
+
+pub moment-told-where-none : (t : Moment) → readConfig noClock .config .first ≡ At t → ⊥
+moment-told-where-none t e = let q : None ≡ At t = sym (ap (λ (a : ConfigAnswer). a .config .first) no-clock-accepted) ∙ e in clash (cc)
+
+pub time-told-where-unknown : (p : Span) → readConfig noClock .config .pretrigger ≡ known.Is p → ⊥
+time-told-where-unknown p e = let q : known.Unknown ≡ known.Is p = sym (ap (λ (a : ConfigAnswer). a .config .pretrigger) no-clock-accepted) ∙ e in clash (cc)
+
+pub zero-date-with-any-time : readConfig (recordingWith "00/00/0000" "0,0") .answer ≡ Yes → ⊥
+zero-date-with-any-time e = yes-no (readConfig (recordingWith "00/00/0000" "0,0") .answer) (refused 6 8 1) e (ap (λ (a : ConfigAnswer). a .answer) zero-date-refused)
+
+pub bad-time-told-at-the-time : readConfig (recordingWith "00/00/0000" "0,0") .answer ≡ No (refused 6 8 2) → ⊥
+bad-time-told-at-the-time e = let q : refused 6 8 1 ≡ refused 6 8 2 = cc (sym (ap (λ (a : ConfigAnswer). a .answer) zero-date-refused) ∙ e) in eqb-false 1 2 refl (ap (λ (r : Refusal). r .field) q)
+
+no-time-beside : dateLine (quoted "00/00/0000,x") ≡ refuses (fault 6 1)
+unfolding dateLine fieldCount afterFields fieldAt readDate isZeroDate dateOf fitsPattern fitsCharacter digitsAt numberOf isDigit readTime timeForm lengthIn
+no-time-beside = refl
+
+pub five-beside-no-date : dateLine (quoted "00/00/0000,x") ≡ refuses (fault 5 2) → ⊥
+five-beside-no-date e = let q : fault 6 1 ≡ fault 5 2 = cc (sym no-time-beside ∙ e) in eqb-false 6 5 refl (ap (λ (f : Fault). f .number) q)
+
+pub half-zero-date-taken : readConfig (recordingWith "00/02/2024" "0,0") .answer ≡ Yes → ⊥
+half-zero-date-taken e = yes-no (readConfig (recordingWith "00/02/2024" "0,0") .answer) (refused 6 8 1) e (ap (λ (a : ConfigAnswer). a .answer) half-zero-refused)
 
 -- the recording of the rules, whose kind is ASCII, written as binary
 binary-written : (w : List ℕ) × (rewriteSaid recording Binary 172 ≡ says w)

@@ -3,6 +3,7 @@
 --     instant-is                      a moment in nanoseconds is its second and its nanosecond
 --     span-alone                      seconds, and nanoseconds less than a second, are known by what they make
 --     pretrigger-exactly              the pre-trigger time of valid moments is p exactly when first sample and p make the trigger
+--     between-exactly                 the time between two stamps of the calendar is p exactly when it is told so
 -- Assumes nothing.
 use mathlib.Core.Path.{_≡_, refl, sym, ap, _∙_}
 use mathlib.Core.Logic.{_↔_}
@@ -18,16 +19,20 @@ use lib.Seq.{take-suc}
 use Rattle.ground.proofs.Cases.{clash}
 use Rattle.clock.specs.declared.Date.{Date}
 use Rattle.clock.specs.declared.Span.{Span}
+use Rattle.clock.specs.declared.Moment.{Moment}
+use Rattle.clock.specs.declared.Stamp.{Stamp}
+use Rattle.clock.specs.declared.Stamp.the-variants.{At, None}
+use Rattle.clock.specs.declared.Pretrigger.{Pretrigger}
+use Rattle.clock.specs.declared.Pretrigger.the-variants.{Is}
 use Rattle.clock.specs.Dates as clock
 use Rattle.clock.specs.Dates.{validDate, daysOfMonths}
 use Rattle.clock.specs.Times.{validTime, secondOfDay}
-use Rattle.clock.specs.Spans.{secondNumber, preTrigger}
+use Rattle.clock.specs.Spans.{secondNumber, preTrigger, Calendar, pretriggerOf}
 use Rattle.clock.specs.Inner.{inNanoseconds}
 use Rattle.clock.proofs.DateLaws.{date-bounds, years-next}
 use Rattle.clock.proofs.SpanLaws.{pre-exact, pre-below}
-use Rattle.config_rules.specs.declared.Moment.{Moment}
 use Rattle.paper.specs.Fields.{monthLengths}
-use Rattle.paper.specs.Configuration.{sum, daysOfYears, dayNumber, instant, PreTrigger}
+use Rattle.paper.specs.Configuration.{sum, daysOfYears, dayNumber, instant, PreTrigger, Between}
 use Rattle.exact.proofs.ClockLaws.{month-is}
 
 sum-last : (l : List ℕ) (n : ℕ) → sum (l ++ n ∷ []) ≡ sum l + n
@@ -122,3 +127,11 @@ module _ (first trigger : Moment) (firstDate : validDate (first .date) ≡ true)
 
   pub pretrigger-exactly : (p : Span) → preTrigger (first .date) (first .time) (trigger .date) (trigger .time) ≡ p ↔ PreTrigger first trigger p
   pretrigger-exactly p = (pre-to p, pre-from p)
+
+pub between-exactly : (first trigger : Stamp) → Calendar first → Calendar trigger → (p : Pretrigger) → pretriggerOf first trigger ≡ p ↔ Between first trigger p
+unfolding pretriggerOf
+between-exactly (At a) (At b) h g p =
+    let w = pretrigger-exactly a b (h .0) (h .1) (g .0) (g .1) in
+    (λ e. (_, sym e, w _ .0 refl), λ (d, q, k). ap Is (w d .1 k) ∙ sym q)
+between-exactly (At a) None h g p = (λ e. sym e, λ e. sym e)
+between-exactly None b h g p = (λ e. sym e, λ e. sym e)

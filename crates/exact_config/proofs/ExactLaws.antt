@@ -2,12 +2,12 @@
 --     last-is              the last of some last rows, told by how they end
 --     multiplier-some      a line of a time multiplier is not empty
 --     quality-some         nor is one of quality and leap second code
+--     pre-is               the time between two date lines, told on the page
 --     shown-is             what is shown, part by part
---     moment               the moment that a date line says
 --     last-lines-read      the time multiplier and what follows it, by the edition
 --     config-reads         what is read whole is a configuration, and the other way round
 --     config-exactly       the bytes s are accepted and show c exactly when they are a configuration that shows c
---     config-refused       they are refused, with zeros beside the refusal, exactly when they are none
+--     config-refused       they are refused, with zeros, no dates and no last lines beside the refusal, exactly when they are none
 --     one-config           a configuration shows one thing
 --     sized-config         a configuration's layout is allowed
 --     absent-exactly       a configuration shows that it has no last lines exactly where its edition is 1999
@@ -25,10 +25,9 @@ use Rattle.ground.specs.Said.{Said, says, refuses}
 use Rattle.ground.specs.Quoted.{quoted}
 use Rattle.ground.proofs.Cases.{clash}
 use Rattle.ground.proofs.Walk as walk
-use Rattle.clock.specs.declared.Date.{Date}
-use Rattle.clock.specs.declared.Time.{Time}
-use Rattle.clock.specs.declared.Span.{Span}
-use Rattle.clock.specs.Spans.{preTrigger}
+use Rattle.clock.specs.declared.Stamp.{Stamp}
+use Rattle.clock.specs.declared.Pretrigger.{Pretrigger}
+use Rattle.clock.specs.Spans.{pretriggerOf}
 use Rattle.channel_lines.specs.Channels.{channelsLine, analogLine, statusLine}
 use Rattle.config_lines.specs.Lines.{stationLine, frequencyLine, ratesLine, dateLine, kindLine, multiplierLine, codesLine, qualityLine}
 use Rattle.model.specs.declared.Kind.{Kind}
@@ -39,7 +38,6 @@ use Rattle.model.specs.declared.Answer.the-variants.{Yes, No}
 use Rattle.model.specs.Refusals.{refused}
 use Rattle.model.specs.Layouts.{isSized}
 use Rattle.model.proofs.LayoutLaws.{sized, sized-has}
-use Rattle.config_rules.specs.declared.Moment.{Moment}
 use Rattle.config_rules.specs.declared.Last.{Last}
 use Rattle.config_rules.specs.declared.Last.the-variants.{Lines, Absent}
 use Rattle.config_rules.specs.declared.Config.{Config}
@@ -47,15 +45,13 @@ use Rattle.config.specs.declared.ConfigAnswer.{ConfigAnswer}
 use Rattle.config.specs.Reading.{Place, saidOf}
 use Rattle.config.specs.Config.{configAnswer, lastOf, lastLines, configuration, noConfig, readConfig}
 use Rattle.config.proofs.SizedLaws.{accepted-sized}
-use Rattle.paper.specs.Lines.{Line, ended, StationLine, ChannelsLine, AnalogLine, StatusLine, FrequencyLine, RatesLine, DateLine, KindLine, MultiplierLine, CodesLine, QualityLine}
-use Rattle.paper.specs.Configuration.{PreTrigger, EndLines, Configuration}
+use Rattle.paper.specs.Lines.{Line, ended, StationLine, ChannelsLine, AnalogLine, StatusLine, FrequencyLine, RatesLine, StampLine, KindLine, MultiplierLine, CodesLine, QualityLine}
+use Rattle.paper.specs.Configuration.{Between, EndLines, Configuration}
 use Rattle.paper.specs.Data.{Allowed}
 use Rattle.exact.proofs.AnswerLaws.{other-told}
-use Rattle.exact.proofs.ClockLaws.{day-exactly}
-use Rattle.exact.proofs.TimeLaws.{time-valid}
-use Rattle.exact.proofs.CalendarLaws.{pretrigger-exactly}
+use Rattle.exact.proofs.CalendarLaws.{between-exactly}
 use Rattle.exact_config.proofs.LineLaws.{station-line-exactly, channels-line-exactly, analog-line-exactly, status-line-exactly, frequency-line-exactly, rates-line-exactly}
-use Rattle.exact_config.proofs.LineLaws.{date-line-exactly, kind-line-exactly, multiplier-line-exactly, codes-line-exactly, quality-line-exactly}
+use Rattle.exact_config.proofs.LineLaws.{date-line-exactly, stamp-calendar, kind-line-exactly, multiplier-line-exactly, codes-line-exactly, quality-line-exactly}
 use Rattle.exact_config.proofs.ConfigLaws.{LastEnd, ReadsLines, reads-as, done-reads, asking-reads, bind-reads, line-reads, last-reads, times-reads, lasts-reads}
 
 last-to : (before : ℕ) (l : List ℕ) → 1 ≤ length l → (others : List ℕ) × (l ≡ others ++ lastOf before l ∷ [])
@@ -73,11 +69,8 @@ last-is l r h = (
   λ (others, e). ap (lastOf 0) e ∙ last-from 0 others r,
 )
 
--- the moments of two date lines are valid, so that the time between them is what it is
-pre-is : (f t : Moment) (k l : List ℕ) (p : Span) → DateLine f k → DateLine t l → preTrigger (f .date) (f .time) (t .date) (t .time) ≡ p ↔ PreTrigger f t p
-pre-is f t k l p h g =
-    pretrigger-exactly f t (day-exactly (f .date) .1 (h .date .valid)) (time-valid (f .time) (h .f 2) (h .time))
-    (day-exactly (t .date) .1 (g .date .valid)) (time-valid (t .time) (g .f 2) (g .time)) p
+pub pre-is : (f t : Stamp) (k l : List ℕ) (p : Pretrigger) → StampLine f k → StampLine t l → pretriggerOf f t ≡ p ↔ Between f t p
+pre-is f t k l p h g = between-exactly f t (stamp-calendar f k h) (stamp-calendar t l g) p
 
 pub multiplier-some : (l : List ℕ) → MultiplierLine l → 1 ≤ length l
 multiplier-some l w =
@@ -92,7 +85,7 @@ pub quality-some : (q p : ℕ) (l : List ℕ) → QualityLine q p l → 1 ≤ le
 quality-some q p l w = let e = ap length (w .fields .joined) in omega (arith, simp length-append at e)
 
 -- what is shown
-shown-is : (c : Config) (lasts : List ℕ) (rows : ℕ) (p : Span) → c .lasts ≡ lasts → c .layout .rows ≡ rows → c .pretrigger ≡ p
+shown-is : (c : Config) (lasts : List ℕ) (rows : ℕ) (p : Pretrigger) → c .lasts ≡ lasts → c .layout .rows ≡ rows → c .pretrigger ≡ p
     → record {
       layout = record { analogs = c .layout .analogs; statuses = c .layout .statuses; rows = rows; kind = c .layout .kind; edition = c .layout .edition };
       rates = c .rates;
@@ -113,20 +106,16 @@ end-from : (e : List ℕ) → (e ≡ []) ⊎ (e ≡ quoted "\r\n") → LastEnd e
 end-from e (inl q) = inr (q, refl)
 end-from e (inr q) = inl q
 
--- a date line's moment
-abbrev pub moment : Date × Time → Moment
-moment v = record { date = v .0; time = v .1 }
-
 -- what the lines show together
-abbrev shownBy : Edition → ℕ × ℕ → ℕ → List ℕ → Date × Time → Date × Time → Kind → Last → Config
+abbrev shownBy : Edition → ℕ × ℕ → ℕ → List ℕ → Stamp → Stamp → Kind → Last → Config
 shownBy edition counts rates lasts first trigger kind last =
     record {
       layout = record { analogs = counts .0; statuses = counts .1; rows = lastOf 0 lasts; kind = kind; edition = edition };
       rates = rates;
       lasts = lasts ++ replicate (8 - length lasts) 0;
-      first = moment first;
-      trigger = moment trigger;
-      pretrigger = preTrigger (first .0) (first .1) (trigger .0) (trigger .1);
+      first = first;
+      trigger = trigger;
+      pretrigger = pretriggerOf first trigger;
       last = last;
     }
 
@@ -182,8 +171,8 @@ config-reads s c =
     bind-reads (line-reads frequencyLine (λ z. FrequencyLine) (λ z. frequency-line-exactly)) (λ z5.
     bind-reads (line-reads ratesLine RatesLine rates-line-exactly) (λ r.
     bind-reads (lasts-reads r (max 1 r) 0) (λ lasts.
-    bind-reads (line-reads dateLine (λ v. DateLine (moment v)) (λ v. date-line-exactly (moment v))) (λ f.
-    bind-reads (line-reads dateLine (λ v. DateLine (moment v)) (λ v. date-line-exactly (moment v))) (λ t.
+    bind-reads (line-reads dateLine StampLine date-line-exactly) (λ f.
+    bind-reads (line-reads dateLine StampLine date-line-exactly) (λ t.
     bind-reads (line-reads (kindLine e) (KindLine e) (kind-line-exactly e)) (λ k.
     bind-reads (last-lines-read e) (λ last.
     bind-reads (asking-reads (λ s. eqb (length s) 0) (λ n. refused 9 n 0)) (λ z12.
@@ -219,7 +208,7 @@ config-reads s c =
             first = g8;
             m7 = m7;
             trigger = g9;
-            pretrigger = pre-is (moment f) (moment t) l7 m7 (preTrigger (f .0) (f .1) (t .0) (t .1)) (g8 .is) (g9 .is) .0 refl;
+            pretrigger = pre-is f t l7 m7 (pretriggerOf f t) (g8 .is) (g9 .is) .0 refl;
             l8 = l8;
             kind = g10;
             l9 = l9;
@@ -246,7 +235,7 @@ config-reads s c =
           let s1 = ended (w .l2) ++ s2 in
           let n = w .rateCount in
           let some : 1 ≤ length (w .lasts) = omega arith in
-          let shown = shown-is c (w .lasts ++ replicate (8 - length (w .lasts)) 0) (lastOf 0 (w .lasts)) (preTrigger (c .first .date) (c .first .time) (c .trigger .date) (c .trigger .time))
+          let shown = shown-is c (w .lasts ++ replicate (8 - length (w .lasts)) 0) (lastOf 0 (w .lasts)) (pretriggerOf (c .first) (c .trigger))
           (w .lastsShown)
           (sym (last-is (w .lasts) (c .layout .rows) some .1 (w .rows)))
           (sym (pre-is (c .first) (c .trigger) (w .l7) (w .m7) (c .pretrigger) (w .first .is) (w .trigger .is) .1 (w .pretrigger)))
@@ -284,11 +273,11 @@ config-reads s c =
                           s7,
                           (w .t6, refl, w .rateCount, w .rateLines),
                           (
-                            (c .first .date, c .first .time),
+                            c .first,
                             s8,
                             (w .l7, refl, w .first),
                             (
-                              (c .trigger .date, c .trigger .time),
+                              c .trigger,
                               s9,
                               (w .m7, refl, w .trigger),
                               (
@@ -328,7 +317,7 @@ config-exactly s c = (
   λ w. ap (λ (x : Said Refusal (Config × Place)). configAnswer (saidOf x)) (config-reads s c .1 w .1),
 )
 
--- an answer is yes, or no and zeros beside it
+-- an answer is yes, or no and an empty configuration beside it
 answer-cases : (x : Said Refusal Config) → ((r : Refusal) × (configAnswer x ≡ record { answer = No r; config = noConfig })) ⊎ ((c : Config) × (configAnswer x ≡ record { answer = Yes; config = c }))
 answer-cases (says c) = inr (c, refl)
 answer-cases (refuses r) = inl (r, refl)

@@ -35,12 +35,12 @@ use Rattle.config.specs.declared.ConfigAnswer.{ConfigAnswer}
 use Rattle.config.specs.Reading.{Place, Reader, saidOf, inLine, scanned, done, asking, line, lastLine, times}
 use Rattle.config.specs.Reading as paper
 use Rattle.config.specs.Config.{configAnswer, lastRows, lastLines, configuration, noConfig, readConfig}
-use Rattle.paper.specs.Lines.{Line, ended, StationLine, ChannelsLine, AnalogLine, StatusLine, FrequencyLine, RatesLine, rateSign, RateLine, DateLine, KindLine, MultiplierLine, CodesLine, QualityLine}
+use Rattle.paper.specs.Lines.{Line, ended, StationLine, ChannelsLine, AnalogLine, StatusLine, FrequencyLine, RatesLine, rateSign, RateLine, StampLine, KindLine, MultiplierLine, CodesLine, QualityLine}
 use Rattle.paper.specs.Order.{Due, station, channels, frequency, rates, rate, first, trigger, kind, multiplier, codes, quality, statusDue, analogDue, rateDue, Right, RightLines, MayEnd, NoneRight, FailsAt}
 use Rattle.exact_config.proofs.LineLaws.{station-line-exactly, channels-line-exactly, analog-line-exactly, status-line-exactly, frequency-line-exactly, rates-line-exactly}
 use Rattle.exact_config.proofs.LineLaws.{rate-line-exactly, date-line-exactly, kind-line-exactly, multiplier-line-exactly, codes-line-exactly, quality-line-exactly}
 use Rattle.exact_config.proofs.ConfigLaws.{said-parts, in-line-told, line-reads, last-reads}
-use Rattle.exact_config.proofs.ExactLaws.{moment, multiplier-some, quality-some}
+use Rattle.exact_config.proofs.ExactLaws.{multiplier-some, quality-some}
 
 -- from where x is due on s first fails at line k, the first line being n
 abbrev Fails : ℕ → Due → List ℕ → ℕ → Type 0
@@ -255,10 +255,10 @@ config-stops =
     bind-stops (line-walks frequencyLine (λ z. FrequencyLine) (λ z. frequency-line-exactly) (frequency e) (λ l z r. (tt, r .0)) (λ z. rates e) (λ z l g. (g, refl)) (⊎-elim (λ q. clash (cc)) (λ q. clash (cc)))) (λ z5.
     bind-stops (line-walks ratesLine RatesLine rates-line-exactly (rates e) (λ l z r. (r .0, r .1)) (λ n. rateDue e n (max 1 n) 0) (λ n l g. (n, g, refl)) (⊎-elim (λ q. clash (cc)) (λ q. clash (cc)))) (λ r.
     bind-stops (lasts-walks e r (max 1 r) 0) (λ lasts.
-    bind-stops (line-walks dateLine (λ v. DateLine (moment v)) (λ v. date-line-exactly (moment v)) (first e) (λ l z r. ((r .0 .date, r .0 .time), r .1))
-    (λ v. trigger e) (λ v l g. (moment v, g, refl)) (⊎-elim (λ q. clash (cc)) (λ q. clash (cc)))) (λ f.
-    bind-stops (line-walks dateLine (λ v. DateLine (moment v)) (λ v. date-line-exactly (moment v)) (trigger e) (λ l z r. ((r .0 .date, r .0 .time), r .1))
-    (λ v. kind e) (λ v l g. (moment v, g, refl)) (⊎-elim (λ q. clash (cc)) (λ q. clash (cc)))) (λ t.
+    bind-stops (line-walks dateLine StampLine date-line-exactly (first e) (λ l z r. (r .0, r .1))
+    (λ v. trigger e) (λ v l g. (v, g, refl)) (⊎-elim (λ q. clash (cc)) (λ q. clash (cc)))) (λ f.
+    bind-stops (line-walks dateLine StampLine date-line-exactly (trigger e) (λ l z r. (r .0, r .1))
+    (λ v. kind e) (λ v l g. (v, g, refl)) (⊎-elim (λ q. clash (cc)) (λ q. clash (cc)))) (λ t.
     bind-stops (line-walks (kindLine e) (KindLine e) (kind-line-exactly e) (kind e) (λ l z r. (r .0, r .1)) (λ k. multiplier e) (λ k l g. (k, g, refl)) (⊎-elim (λ q. clash (cc)) (λ q. clash (cc)))) (λ k.
     only-stops (last-lines-stop e) (λ last. nothing-more _))))))))))))
 

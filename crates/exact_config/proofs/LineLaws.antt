@@ -5,17 +5,22 @@
 --     fields-here                                       the fields that a line is are found in it
 --     station-line-exactly, channels-line-exactly       each line, in the order of the rules
 --     analog-line-exactly, status-line-exactly, frequency-line-exactly, rates-line-exactly, rate-line-exactly
---     date-line-exactly, kind-line-exactly, multiplier-line-exactly, codes-line-exactly, quality-line-exactly
+--     zero-line                                         a line of zeros, by its two fields
+--     date-line-exactly, stamp-calendar                 a date line; what it says is of the calendar, or no date
+--     kind-line-exactly, multiplier-line-exactly, codes-line-exactly, quality-line-exactly
 -- Assumes nothing.
 use mathlib.Core.Path.{_≡_, refl, sym, ap, subst, _∙_}
 use mathlib.Core.Logic.{_↔_, _⊎_, inl, inr}
 use mathlib.Core.Bool.{Bool, true, false, not}
-use mathlib.Core.List.{List, []}
-use Prim.Native.Nat.{ℕ, _+_}
+use mathlib.Core.List.{List, [], _++_}
+use Prim.Native.Nat.{ℕ, zero, suc, _+_}
 use native.Mathlib.Omega.{arith}
 use borrow.Author.Tests.{eq-eqb, eqb-true, lt-ltb, ltb-true, leb-true}
 use lib.Dec.{eqb, ltb, leb}
 use lib.IntN.{ℤ, pos}
+use Rattle.ground.specs.Choice.{if_then_else_}
+use Rattle.ground.specs.Quoted.{quoted}
+use Rattle.ground.specs.Tables.{every}
 use Rattle.ground.specs.Said.{Said, says, _>>=_, _>>_, must}
 use Rattle.ground.proofs.Cases.{on-test, clash}
 use Rattle.ground.proofs.Every.{and-split}
@@ -31,38 +36,36 @@ use Rattle.reals.specs.declared.Real.the-variants as real
 use Rattle.reals.specs.declared.Limit.{Limit}
 use Rattle.reals.specs.declared.Limit.the-variants as limit
 use Rattle.reals.specs.Exact.{readLimit, maxBelow}
-use Rattle.clock.specs.declared.Date.{Date}
-use Rattle.clock.specs.declared.DateField.the-variants as date
-use Rattle.clock.specs.declared.Time.{Time}
-use Rattle.clock.specs.declared.TimeField.the-variants as time
+use Rattle.clock.specs.declared.Stamp.{Stamp}
+use Rattle.clock.specs.declared.Stamp.the-variants as stamp
 use Rattle.codes.specs.declared.Code.{Code}
 use Rattle.codes.specs.declared.Code.the-variants as code
 use Rattle.clock.specs.Dates.{readDate}
 use Rattle.clock.specs.Times.{readTime}
+use Rattle.clock.specs.Spans.{Calendar}
 use Rattle.codes.specs.Codes.{codeIn, readCode, readLocalCode}
 use Rattle.line_fields.specs.declared.Fault.{Fault}
 use Rattle.line_fields.specs.Faults.{textFault, indexFault, realFault, frequencyFault, aboveFault, rateFault, sideFault, stateFault}
 use Rattle.line_fields.specs.Checks.{fault, hasFields, faultless, numberAt, value}
 use Rattle.channel_lines.specs.Channels.{limitAt, channelsLine, names, scale, limits, analogLine, statusLine}
-use Rattle.config_lines.specs.Lines.{editionAt, yearAt, dateAt, timeAt, ofEdition, kindAt, codeAt, localAt, stationLine, frequencyLine, ratesLine, rateLine, dateLine, kindLine, multiplierLine, codesLine, qualityLine}
+use Rattle.config_lines.specs.Lines.{editionAt, yearAt, stampSaid, ofEdition, kindAt, codeAt, localAt, stationLine, frequencyLine, ratesLine, rateLine, dateLine, kindLine, multiplierLine, codesLine, qualityLine}
 use Rattle.line_fields.proofs.ValueLaws.{number-told}
-use Rattle.config_lines.proofs.Laws.{date-told, time-told, kind-told}
+use Rattle.config_lines.proofs.Laws.{moment-told, none-told, date-said, kind-told}
 use Rattle.model.specs.declared.Kind.{Kind}
 use Rattle.model.specs.declared.Edition.{Edition}
 use Rattle.model.specs.declared.Edition.the-variants.{Y2013, Y1999}
 use Rattle.model.specs.Editions.{yearOf, editionOf, hasKind}
-use Rattle.config_rules.specs.declared.Moment.{Moment}
 use Rattle.paper.specs.Fields.{isBetween, CountIn, Limits}
 use Rattle.paper.specs.Fields as paper
 use Rattle.paper.specs.Lines.{Fields, ChannelNames, StationLine, ChannelsLine, AnalogLine, StatusLine, FrequencyLine, RatesLine}
-use Rattle.paper.specs.Lines.{rateSign, RateLine, DateLine, KindLine, MultiplierLine, LocalField, CodesLine, QualityLine}
+use Rattle.paper.specs.Lines.{rateSign, RateLine, ZeroLine, StampLine, KindLine, MultiplierLine, LocalField, CodesLine, QualityLine}
 use Rattle.exact.proofs.CommaLaws.{fields-exactly, fields-of}
 use Rattle.exact.proofs.FieldLaws.{count-in-exactly, lettered-exactly, year-is}
 use Rattle.exact.proofs.CharacterLaws.{quality-exactly, leap-exactly}
 use Rattle.exact.proofs.KindLaws.{kind-exactly, has-exactly}
 use Rattle.exact.proofs.LimitLaws.{limits-exactly}
-use Rattle.exact.proofs.ClockLaws.{date-exactly}
-use Rattle.exact.proofs.TimeLaws.{time-exactly}
+use Rattle.exact.proofs.ClockLaws.{date-exactly, no-date-exactly}
+use Rattle.exact.proofs.TimeLaws.{ZeroTimeText, time-exactly, zero-time}
 use Rattle.exact.proofs.CodeLaws.{code-exactly, x-exactly}
 use Rattle.exact_config.proofs.FaultLaws.{text-fine, index-fine, real-fine, frequency-fine, above-fine, rate-fine, side-fine, state-fine}
 
@@ -301,22 +304,61 @@ rate-line-exactly n before last l =
           w .exactly last .1 (c, (rw (e 1 refl) (s .rate), (last, rw (e 2 refl) (s .row), (s .rises, refl)))),
     )
 
-pub date-line-exactly : (m : Moment) (l : List ℕ) → dateLine l ≡ says (m .date, m .time) ↔ DateLine m l
+-- what the two fields of a date line are
+abbrev StampFields : Stamp → List ℕ → List ℕ → Type 0
+StampFields (stamp.At m) f g = paper.DateText (m .date) f × paper.TimeText (m .time) g
+StampFields stamp.None f g = (f ≡ quoted "00/00/0000") × ZeroTimeText g
+
+stamp-says : (s : Stamp) (f g : List ℕ) → stampSaid (readDate f) (readTime g) ≡ says s ↔ StampFields s f g
+stamp-says (stamp.At m) f g = (
+  λ e. let (d, t) = moment-told (readDate f) (readTime g) m e in (date-exactly (m .date) f .0 d, time-exactly (m .time) g .0 t),
+  λ (d, t). rw (date-exactly (m .date) f .1 d, time-exactly (m .time) g .1 t),
+)
+stamp-says stamp.None f g = (
+  λ e. let (d, y, t, z) = none-told (readDate f) (readTime g) e in (no-date-exactly f .0 d, zero-time g .0 (y, t, z)),
+  λ (d, t). let (y, p, z) = zero-time g .1 t in rw (no-date-exactly f .1 d, p, z),
+)
+
+-- the two fields of a line of zeros
+abbrev zeroField : ℕ → ℕ → List ℕ
+zeroField n i = if eqb i 1 then quoted "00/00/0000" else quoted "00:00:00." ++ paper.zeros n
+
+zeros-apart : (n : ℕ) → every (λ b. not (eqb b 44)) (paper.zeros n) ≡ true
+zeros-apart zero = refl
+zeros-apart (suc n) = zeros-apart n
+
+zero-fields : (l : List ℕ) (w : ZeroLine l) → Fields 2 (zeroField (w .places)) l
+zero-fields l w =
+    record {
+      joined = w .line;
+      apart = λ i h k. on-test (eqb i 1) (λ t. rw t) (λ t. rw t (zeros-apart (w .places)));
+    }
+
+pub zero-line : (l : List ℕ) → ((fieldCount l ≡ 2) × ((fieldAt 1 l ≡ quoted "00/00/0000") × ZeroTimeText (fieldAt 2 l))) ↔ ZeroLine l
+zero-line l = (
+  λ (c, (d, (n, h, k, t))). record { places = n; least = h; most = k; line = fields-of 2 l (omega arith) c .joined ∙ rw (d, t) },
+  λ w.
+      let (c, e) = fields-here 2 (zeroField (w .places)) l refl (zero-fields l w) in
+      (c, (e 1 refl, (w .places, w .least, w .most, e 2 refl))),
+)
+
+stamp-line : (s : Stamp) (l : List ℕ) → ((fieldCount l ≡ 2) × StampFields s (fieldAt 1 l) (fieldAt 2 l)) ↔ StampLine s l
+stamp-line (stamp.At m) l = (
+  λ (c, (d, t)). record { f = λ i. fieldAt i l; fields = fields-of 2 l (omega arith) c; date = d; time = t },
+  λ w. let (c, e) = fields-here 2 (w .f) l refl (w .fields) in (c, (rw (e 1 refl) (w .date), rw (e 2 refl) (w .time))),
+)
+stamp-line stamp.None l = zero-line l
+
+pub date-line-exactly : (s : Stamp) (l : List ℕ) → dateLine l ≡ says s ↔ StampLine s l
 unfolding dateLine
-date-line-exactly m l =
-    let w =
-    then-says (count-says 2 l)
-    (bind-says (at-says (dateAt 1) date.Is (date-told 1) (λ x. refl) (readDate (fieldAt 1 l)) (λ x. date-exactly x (fieldAt 1 l))) (λ d.
-    bind-says (at-says (timeAt 2) time.Is (time-told 2) (λ x. refl) (readTime (fieldAt 2 l)) (λ x. time-exactly x (fieldAt 2 l))) (λ t.
-    says-says {A = Date × Time} (d, t))))
-    in (
-      λ e.
-          let (c, (d, p, (t, q, z))) = w .exactly (m .date, m .time) .0 e in
-          subst (λ (v : Date × Time). DateLine (record { date = v .0; time = v .1 }) l) z (record { f = λ i. fieldAt i l; fields = fields-of 2 l (omega arith) c; date = p; time = q }),
-      λ s.
-          let (c, e) = fields-here 2 (s .f) l refl (s .fields) in
-          w .exactly (m .date, m .time) .1 (c, (m .date, rw (e 1 refl) (s .date), (m .time, rw (e 2 refl) (s .time), refl))),
-    )
+date-line-exactly s l =
+    let w = then-says (count-says 2 l) (record { exactly = λ s. stamp-says s (fieldAt 1 l) (fieldAt 2 l) }) in
+    let t = stamp-line s l in
+    (λ e. t .0 (w .exactly s .0 e), λ h. w .exactly s .1 (t .1 h))
+
+-- so what it says is of the calendar, or no date
+pub stamp-calendar : (s : Stamp) (l : List ℕ) → StampLine s l → Calendar s
+stamp-calendar s l h = date-said l s (date-line-exactly s l .1 h)
 
 kind-says : (e : Edition) (n : ℕ) (f : List ℕ) → Says (kindAt n (ofEdition e (readKind f))) (λ k. paper.KindWord k f × (hasKind e k ≡ true))
 kind-says e n f =

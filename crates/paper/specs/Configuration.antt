@@ -10,8 +10,12 @@ use lib.ListN.{length, replicate, take}
 use Rattle.ground.specs.Quoted.{quoted}
 use Rattle.clock.specs.declared.Date.{Date}
 use Rattle.clock.specs.declared.Span.{Span}
+use Rattle.clock.specs.declared.Moment.{Moment}
+use Rattle.clock.specs.declared.Stamp.{Stamp}
+use Rattle.clock.specs.declared.Stamp.the-variants as stamp
+use Rattle.clock.specs.declared.Pretrigger.{Pretrigger}
+use Rattle.clock.specs.declared.Pretrigger.the-variants.{Is, Unknown}
 use Rattle.reals.specs.declared.Real.{Real}
-use Rattle.config_rules.specs.declared.Moment.{Moment}
 use Rattle.model.specs.declared.Edition.{Edition}
 use Rattle.model.specs.declared.Edition.the-variants.{Y2013, Y1999}
 use Rattle.config_rules.specs.declared.LastLines.{LastLines}
@@ -20,7 +24,7 @@ use Rattle.config_rules.specs.declared.Last.the-variants as endLines
 use Rattle.config_rules.specs.declared.Config.{Config}
 use Rattle.paper.specs.Fields.{monthLengths}
 use Rattle.paper.specs.Lines.{Line, ended, StationLine, ChannelsLine, AnalogLine, StatusLine, FrequencyLine, RatesLine}
-use Rattle.paper.specs.Lines.{rateSign, RateLine, DateLine, KindLine, MultiplierLine, CodesLine, QualityLine}
+use Rattle.paper.specs.Lines.{rateSign, RateLine, StampLine, KindLine, MultiplierLine, CodesLine, QualityLine}
 
 -- t is m lines, each with its CR LF, the first of them P of i, the next P of i + 1, ..
 abbrev pub Lines : (ℕ → List ℕ → Type 0) → ℕ → ℕ → List ℕ → Type 0
@@ -54,6 +58,12 @@ instant m = (((dayNumber (m .date) * 24 + m .time .hour) * 60 + m .time .minute)
 pub record PreTrigger (first trigger : Moment) (p : Span) : Type 0 where
   pub apart : pos (instant first) +ℤ (p .seconds *ℤ pos 1000000000 +ℤ pos (p .nanoseconds)) ≡ pos (instant trigger)
   pub below : p .nanoseconds < 1000000000
+
+-- the time between first sample and trigger; unknown where either has no date
+abbrev pub Between : Stamp → Stamp → Pretrigger → Type 0
+Between (stamp.At a) (stamp.At b) p = (d : Span) × (p ≡ Is d) × PreTrigger a b d
+Between (stamp.At a) stamp.None p = p ≡ Unknown
+Between stamp.None b p = p ≡ Unknown
 
 -- what follows the time multiplier's bytes, before the file's end: nothing in 1999; in 2013 its CR LF, time code and local code with theirs, time quality and leap second code
 abbrev pub EndLines : Edition → Last → List ℕ → Type 0
@@ -93,10 +103,10 @@ pub record Configuration (s : List ℕ) (c : Config) : Type 0 where
   pub rows : (others : List ℕ) × (lasts ≡ others ++ c .layout .rows ∷ [])
   -- 7: first sample, trigger, and the time between them
   pub l7 : List ℕ
-  pub first : Line (DateLine (c .first)) l7
+  pub first : Line (StampLine (c .first)) l7
   pub m7 : List ℕ
-  pub trigger : Line (DateLine (c .trigger)) m7
-  pub pretrigger : PreTrigger (c .first) (c .trigger) (c .pretrigger)
+  pub trigger : Line (StampLine (c .trigger)) m7
+  pub pretrigger : Between (c .first) (c .trigger) (c .pretrigger)
   -- 8: kind
   pub l8 : List ℕ
   pub kind : Line (KindLine (c .layout .edition) (c .layout .kind)) l8

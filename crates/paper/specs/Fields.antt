@@ -250,6 +250,10 @@ pub record TimeText (x : Time) (f : List ℕ) : Type 0 where
   pub form : TimeForm x f
   pub valid : TimeOfDay x
 
+-- n characters 0
+abbrev pub zeros : ℕ → List ℕ
+zeros n = replicate n 48
+
 -- KIND, CODES, QUALITY
 -- a capital letter, byte 65 to 90, as a small one
 abbrev pub lowered : List ℕ → List ℕ

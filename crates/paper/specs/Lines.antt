@@ -14,8 +14,10 @@ use Rattle.model.specs.declared.Kind.{Kind}
 use Rattle.model.specs.declared.Kind.the-variants.{Binary32}
 use Rattle.model.specs.declared.Edition.{Edition}
 use Rattle.model.specs.declared.Edition.the-variants.{Y2013, Y1999}
-use Rattle.config_rules.specs.declared.Moment.{Moment}
-use Rattle.paper.specs.Fields.{TextField, isBetween, CountField, CountIn, Lettered, RealField, AnyReal, Limits, DateText, TimeText, KindWord, CodeField, XField, QualityField, LeapField}
+use Rattle.clock.specs.declared.Moment.{Moment}
+use Rattle.clock.specs.declared.Stamp.{Stamp}
+use Rattle.clock.specs.declared.Stamp.the-variants as stamp
+use Rattle.paper.specs.Fields.{TextField, isBetween, CountField, CountIn, Lettered, RealField, AnyReal, Limits, DateText, TimeText, zeros, KindWord, CodeField, XField, QualityField, LeapField}
 
 -- a line: bytes 32 to 126, and it is P
 pub record Line (P : List ℕ → Type 0) (l : List ℕ) : Type 0 where
@@ -111,6 +113,18 @@ pub record DateLine (m : Moment) (l : List ℕ) : Type 0 where
   pub fields : Fields 2 f l
   pub date : DateText (m .date) (f 1)
   pub time : TimeText (m .time) (f 2)
+
+-- no date: the line of zeros, 6 to 9 of them after the point
+pub record ZeroLine (l : List ℕ) : Type 0 where
+  pub places : ℕ
+  pub least : 6 ≤ places
+  pub most : places ≤ 9
+  pub line : l ≡ quoted "00/00/0000,00:00:00." ++ zeros places
+
+-- a date and a time, or no date
+abbrev pub StampLine : Stamp → List ℕ → Type 0
+StampLine (stamp.At m) l = DateLine m l
+StampLine stamp.None l = ZeroLine l
 
 -- 8: the kind; binary32 is none of 1999
 pub record KindLine (e : Edition) (k : Kind) (l : List ℕ) : Type 0 where

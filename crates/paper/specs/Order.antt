@@ -8,9 +8,9 @@ use lib.IntN.{ℤ}
 use Rattle.model.specs.declared.Kind.{Kind}
 use Rattle.model.specs.declared.Edition.{Edition}
 use Rattle.model.specs.declared.Edition.the-variants.{Y2013, Y1999}
-use Rattle.config_rules.specs.declared.Moment.{Moment}
+use Rattle.clock.specs.declared.Stamp.{Stamp}
 use Rattle.paper.specs.Lines.{Line, ended, StationLine, ChannelsLine, AnalogLine, StatusLine, FrequencyLine, RatesLine}
-use Rattle.paper.specs.Lines.{rateSign, RateLine, DateLine, KindLine, MultiplierLine, CodesLine, QualityLine}
+use Rattle.paper.specs.Lines.{rateSign, RateLine, StampLine, KindLine, MultiplierLine, CodesLine, QualityLine}
 
 -- the line that is due; after the first line by the edition that it named
 pub data Due : Type 0 where
@@ -62,8 +62,8 @@ Right (status e i m) l y = Line (StatusLine i) l × (y ≡ statusDue e (i + 1) m
 Right (frequency e) l y = Line FrequencyLine l × (y ≡ rates e)
 Right (rates e) l y = (n : ℕ) × Line (RatesLine n) l × (y ≡ rateDue e n (max 1 n) 0)
 Right (rate e n m before) l y = (last : ℕ) × Line (RateLine (rateSign n) before last) l × (y ≡ rateDue e n m last)
-Right (first e) l y = (m : Moment) × Line (DateLine m) l × (y ≡ trigger e)
-Right (trigger e) l y = (m : Moment) × Line (DateLine m) l × (y ≡ kind e)
+Right (first e) l y = (s : Stamp) × Line (StampLine s) l × (y ≡ trigger e)
+Right (trigger e) l y = (s : Stamp) × Line (StampLine s) l × (y ≡ kind e)
 Right (kind e) l y = (k : Kind) × Line (KindLine e k) l × (y ≡ multiplier e)
 Right (multiplier e) l y = Line MultiplierLine l × (y ≡ endDue e)
 Right codes l y = (z : ℤ) × (w : ℤ) × (x : Bool) × Line (CodesLine z w x) l × (y ≡ quality)

@@ -5,6 +5,7 @@ use native.Mathlib.Omega.{arith}
 use lib.ListN.{length, take}
 use lib.Seq.{length-take-le}
 use Rattle.ground.proofs.Parts.{halves, half-length}
+use Rattle.config_places.proofs.ConfigLaws.{start-places}
 use borrow.Author.Needs.{needs}
 use Rattle.config_places.proofs.put_others.Statement.{statement}
 use Rattle.config_places.proofs.put_others.Tie as tie
@@ -26,7 +27,11 @@ slice-aggregate-copy-numbers-2 : tie.Need-slice-aggregate-copy-numbers-2
 slice-aggregate-copy-numbers-2 c = sym (front (c .before .before .before .before))
 
 copy-numbers-requires : tie.Need-copy-numbers-requires
-copy-numbers-requires c κs = front (c .before .before .before .before) ∙ sym (ap length (c .before .before .before .start-places .ensures))
+copy-numbers-requires c κs =
+    let starts = c .before .before in
+    let s = starts .before .before in
+    let config = s .args .config in
+    front s ∙ sym (ap length (starts .start-places .ensures) ∙ start-places (config .pretrigger) (config .layout .kind))
 
 sub-put-end : tie.Need-sub-put-end
 sub-put-end c = search needs
@@ -53,7 +58,7 @@ returns c =
     let q = second .last .1 .1 .0 in
     let lp : length p ≡ 3 = first .kept .1 .0 ∙ front s in
     let lq : length q ≡ length d - 3 = second .kept .1 .1 .0 ∙ half-length d p 3 (length d) lp (omega arith) (omega arith) in
-    halves d p q 3 (length d) lp (omega arith) refl ∙ rw (first .ensures, second .ensures, c .before .before .before .before .before .before .before .before .start-places .ensures)
+    halves d p q 3 (length d) lp (omega arith) refl ∙ rw (first .ensures, second .ensures, c .before .before .before .before .before .before .before .start-places .ensures)
 
 pub put-others-spec : {M : Type 1} → statement M
 put-others-spec =

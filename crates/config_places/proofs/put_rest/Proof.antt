@@ -9,18 +9,18 @@ use borrow.Author.Needs.{needs}
 use Rattle.config_places.proofs.put_rest.Statement.{statement}
 use Rattle.config_places.proofs.put_rest.Tie as tie
 
-slice-relend-prefix-put-moments : tie.Need-slice-relend-prefix-put-moments
-slice-relend-prefix-put-moments c = search needs
+slice-relend-prefix-put-stamps : tie.Need-slice-relend-prefix-put-stamps
+slice-relend-prefix-put-stamps c = search needs
 
 -- the first part
 front : (c : tie.Start) → length (take 14 (c .args .d .now)) ≡ 14
 front c = length-take-le 14 (c .args .d .now) (omega arith)
 
-slice-aggregate-put-moments : tie.Need-slice-aggregate-put-moments
-slice-aggregate-put-moments c = sym (front (c .before))
+slice-aggregate-put-stamps : tie.Need-slice-aggregate-put-stamps
+slice-aggregate-put-stamps c = sym (front (c .before))
 
-put-moments-requires : tie.Need-put-moments-requires
-put-moments-requires c κs = front (c .before)
+put-stamps-requires : tie.Need-put-stamps-requires
+put-stamps-requires c κs = front (c .before)
 
 sub-put-others : tie.Need-sub-put-others
 sub-put-others c = search needs
@@ -41,7 +41,7 @@ returns : tie.Need-returns
 returns c =
     let s = c .before .before .before .before .before .before in
     let d = s .args .d .now in
-    let first = c .before .before .before .before .put-moments in
+    let first = c .before .before .before .before .put-stamps in
     let second = c .before .put-others in
     let p = first .last .1 .1 .0 in
     let q = second .last .1 .0 in
@@ -53,9 +53,9 @@ pub put-rest-spec : {M : Type 1} → statement M
 put-rest-spec =
     tie.close
     (tie.spec
-    slice-relend-prefix-put-moments
-    slice-aggregate-put-moments
-    put-moments-requires
+    slice-relend-prefix-put-stamps
+    slice-aggregate-put-stamps
+    put-stamps-requires
     sub-put-others
     part-put-others-start
     part-put-others-end

@@ -141,7 +141,8 @@ fn put_row(layout: &Layout, n: u32, row: &[i64], out: &mut [u8]) -> Result<usize
 /// A missing sample while it is read or written: the lowest number of 32 bits, which no sample is.
 const MISSING: i32 = i32::MIN;
 
-/// A missing sample in a row that is shown or given, and in a configuration a line that its edition lacks.
+/// A missing sample in a row that is shown or given, and in a configuration a line that its edition lacks, no date, and
+/// an unknown pre-trigger time.
 const NONE: i64 = i64::MIN;
 
 /// How far from zero a sample of a marked text may lie; above zero that number is the mark.

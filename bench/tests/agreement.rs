@@ -110,13 +110,19 @@ fn kinds_are_changed_alike() {
 #[test]
 fn configurations_are_read_alike() {
     let (mut dice, mut met) = (Dice::new(5), Met([0; 18]));
+    let mut without_date = [0; 3];
     for _ in 0..200_000 {
         let cfg = made::configuration(&mut dice);
         let room = if dice.once_in(50) { 34 } else { 37 };
         let tuned = |shown: &mut [i64]| tuned::config(&cfg, shown);
-        compare(room, -9, &mut met, tuned, |shown| second::config(&cfg, shown));
+        let answer = compare(room, -9, &mut met, tuned, |shown| second::config(&cfg, shown));
+        without_date[made::dates_of_zeros(&cfg)] += u32::from(answer.number == 0);
     }
     met.all_of(&[0, 2, 3, 4, 5, 6, 7, 8, 9, 17]);
+    assert!(
+        without_date.iter().all(|&count| count >= 500),
+        "none, one and two lines had no date {without_date:?} times"
+    );
     let long = vec![b'1'; 65_537];
     let mut shown = [0; 35];
     for cfg in [&long[..], &long[1..], &[]] {

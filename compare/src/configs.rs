@@ -223,7 +223,7 @@ fn times(walk: &mut Walk, draft: &Draft) {
 
 /// Each moment of a list as the first sample and each as the trigger.
 fn moments(walk: &mut Walk, draft: &Draft) {
-    let (line, _) = draft.place(Rule::Date);
+    let line = draft.date_line();
     let moments = [
         ("01/01/1900", "00:00:00.000000"),
         ("31/12/9999", "23:59:59.999999999"),
@@ -242,11 +242,7 @@ fn moments(walk: &mut Walk, draft: &Draft) {
     ];
     for first in moments {
         for trigger in moments {
-            walk.case(|| {
-                let draft = draft.with(line, 0, first.0.as_bytes()).with(line, 1, first.1.as_bytes());
-                let draft = draft.with(line + 1, 0, trigger.0.as_bytes()).with(line + 1, 1, trigger.1.as_bytes());
-                config(draft.bytes())
-            });
+            walk.case(|| config(draft.dated(line, first.0, first.1).dated(line + 1, trigger.0, trigger.1).bytes()));
         }
     }
 }

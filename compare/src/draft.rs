@@ -55,9 +55,13 @@ binary
 0,x
 B,0";
 
-/// The configurations that cases are made from, and the same of 1999.
+/// A date of zeros: with a time of zeros it is no date.
+pub const ZERO_DATE: &str = "00/00/0000";
+
+/// The configurations that cases are made from, one of them without dates, and the same of 1999.
 pub fn drafts() -> Vec<Draft> {
-    let of_2013 = [RECORDING, FILLED, LEAST].map(Draft::of);
+    let without_dates = Draft::of(RECORDING).without_dates();
+    let of_2013 = [Draft::of(RECORDING), Draft::of(FILLED), Draft::of(LEAST), without_dates];
     let of_1999 = of_2013.clone().map(|draft| draft.of_1999());
     of_2013.into_iter().chain(of_1999).collect()
 }
@@ -145,6 +149,22 @@ impl Draft {
         draft
     }
 
+    /// The line of the first sample's date, which that of the trigger follows.
+    pub fn date_line(&self) -> usize {
+        self.place(Rule::Date).0
+    }
+
+    /// The same with another date and time in a line.
+    pub fn dated(&self, line: usize, date: &str, time: &str) -> Draft {
+        self.with(line, 0, date.as_bytes()).with(line, 1, time.as_bytes())
+    }
+
+    /// The same as a recorder without a clock fills it in: zeros in both date lines.
+    pub fn without_dates(&self) -> Draft {
+        let line = self.date_line();
+        self.dated(line, ZERO_DATE, &zero_time(6)).dated(line + 1, ZERO_DATE, &zero_time(9))
+    }
+
     /// The same with a kind's word.
     pub fn of_kind(&self, word: &str) -> Draft {
         let (line, field) = self.place(Rule::Kind);
@@ -210,7 +230,7 @@ impl Draft {
         let (a, d) = random_channels(dice);
         let rates = if dice.once_in(3) { dice.index(9) } else { dice.index(3) };
         let edition = if dice.once_in(3) { 1999 } else { 2013 };
-        let mut spelling = Spelling { a, d, rates, edition, last_row: 0, index: 0, limit: 0 };
+        let mut spelling = Spelling { a, d, rates, edition, last_row: 0, index: 0, limit: 0, zeros: false };
         let field = |spelling: &mut Spelling, dice: &mut Dice, rule| Field { rule, bytes: spelling.value(dice, rule) };
         let mut lines = Vec::new();
         for rules in all_lines(a, d, rates, edition) {
@@ -242,6 +262,8 @@ struct Spelling {
     last_row: i64,
     index: usize,
     limit: i64,
+    /// Whether the date is of zeros.
+    zeros: bool,
 }
 
 impl Spelling {
@@ -263,8 +285,8 @@ impl Spelling {
             Rule::Rates => count(dice, self.rates as i64, 3),
             Rule::Rate => real(dice, 32, Some(self.rates > 0)),
             Rule::LastRow => self.next_last_row(dice),
-            Rule::Date => date(dice),
-            Rule::Time => time(dice),
+            Rule::Date => self.next_date(dice),
+            Rule::Time => self.next_time(dice),
             Rule::Kind => kind(dice, self.edition),
             Rule::Multiplier => real(dice, 32, Some(true)),
             Rule::LocalCode if dice.once_in(4) => String::from(dice.pick(&["x", " x", "     x"])),
@@ -302,6 +324,28 @@ impl Spelling {
         let highest = if dice.once_in(4) { 100_000 } else { 20 };
         self.last_row += dice.within(1, highest);
         count(dice, self.last_row, 10)
+    }
+
+    /// A date, one in six of zeros, now and then of zeros in part.
+    fn next_date(&mut self, dice: &mut Dice) -> String {
+        self.zeros = dice.once_in(6);
+        match dice.below(96) {
+            _ if self.zeros => String::from(ZERO_DATE),
+            0 => String::from(dice.pick(&["00/00/2024", "00/01/2024", "01/00/2024", "01/01/0000", "00/00/0001"])),
+            _ => date(dice),
+        }
+    }
+
+    /// A time: of zeros now and then, and most often where the date is; there one of too few or too many zeros too.
+    fn next_time(&mut self, dice: &mut Dice) -> String {
+        let of_zeros = self.zeros != dice.once_in(12);
+        match dice.below(6) {
+            _ if of_zeros => zero_time(dice.within(6, 9) as usize),
+            0 if self.zeros => zero_time(5),
+            1 if self.zeros => zero_time(10),
+            2 if self.zeros => String::new(),
+            _ => time(dice),
+        }
     }
 }
 
@@ -371,6 +415,11 @@ fn time(dice: &mut Dice) -> String {
     let places = dice.within(6, 9) as usize;
     let fraction = dice.below(10u64.pow(places as u32));
     format!("{hour:02}:{minute:02}:{second:02}.{fraction:0places$}")
+}
+
+/// A time of zeros with so many digits after the point.
+pub fn zero_time(places: usize) -> String {
+    format!("00:00:00.{:0<places$}", "")
 }
 
 /// The word of a kind that the edition has most often, with letters of either case.

@@ -1,21 +1,26 @@
 //! Runs a case on the library and on the second program, and compares the answers and every byte lent.
 
 use crate::buffer::{bytes_of, Buffer};
-use crate::case::{Case, Layout, POSSIBLE};
+use crate::case::{Case, Layout, CONFIG_PLACES, POSSIBLE};
 use crate::configs::config;
 use crate::draft::MOST_BYTES;
 use crate::files::{has_missing, range};
 use crate::lent::{Flush, Lent};
 use crate::library;
+use crate::no_date::{date_lines, without_date};
 use crate::rules::{all_lines, is_bare};
 use crate::watch;
 use crate::words::{self, MISSING};
 use second::Answer;
+use std::ops::Range;
 
 /// Bytes of a file above which a change is followed by no more than a length and a check, so that it does not take seconds.
 const LARGE: usize = 1 << 20;
 
-/// The places in which a configuration shows its kind, and its edition.
+/// The places in which a configuration shows its first sample, its trigger, its pre-trigger time, its kind and its edition.
+const SHOWN_FIRST: Range<usize> = 12..19;
+const SHOWN_TRIGGER: Range<usize> = 19..26;
+const SHOWN_PRE_TRIGGER: Range<usize> = 26..28;
 const SHOWN_KIND: usize = 28;
 const SHOWN_EDITION: usize = 34;
 
@@ -93,6 +98,17 @@ fn row_in_range(layout: Layout, row: &[i64]) -> Result<(), String> {
         return Ok(());
     }
     Err(format!("both show {}, which is out of range", words::listed(row)))
+}
+
+/// What every configuration that is shown keeps: a date line of zeros has none of its places, another has all, and the pre-trigger time is unknown where either is of zeros.
+fn dates_or_none(cfg: &[u8], shown: &[i64]) -> Result<(), String> {
+    let [first, trigger] = without_date(cfg);
+    let expected = [(SHOWN_FIRST, first), (SHOWN_TRIGGER, trigger), (SHOWN_PRE_TRIGGER, first || trigger)];
+    let fine = |(places, none): (Range<usize>, bool)| shown[places].iter().all(|&place| (place == MISSING) == none);
+    if expected.into_iter().all(fine) {
+        return Ok(());
+    }
+    Err(format!("both show {}, which are not the dates of its lines", words::listed(shown)))
 }
 
 /// The text of a reason, from those that the library gave; numbers without a text are 10, and 17 comes last.
@@ -204,6 +220,9 @@ impl Judge {
         }
         let missing = answer.number == 0 && self.meets_missing(case);
         match case {
+            Case::Config { cfg, .. } if answer.number == 0 => {
+                dates_or_none(cfg, &self.after.places_mut()[..CONFIG_PLACES])?
+            }
             Case::Row { layout, .. } if answer.number == 0 => {
                 row_in_range(*layout, &self.after.places_mut()[..layout.places()])?
             }
@@ -322,6 +341,9 @@ impl Judge {
             return if read == found { Ok(()) } else { Err(alike()) };
         }
         match found.number {
+            0 if date_lines(cfg).ne(date_lines(&result)) => {
+                Err(format!("the dates are others in {}", words::spelled(&result)))
+            }
             0 => {
                 shown[SHOWN_KIND] = i64::from(kind);
                 self.follow_rewritten(result, kind, &shown)

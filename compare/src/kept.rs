@@ -8,13 +8,14 @@ use crate::words::{Names, Words, MISSING};
 use second::Answer;
 
 /// The files, in an order that stays.
-const FILES: [(&str, &str); 6] = [
+const FILES: [(&str, &str); 7] = [
     ("vectors", include_str!("../kept/vectors")),
     ("configurations", include_str!("../kept/configurations")),
     ("rewritten", include_str!("../kept/rewritten")),
     ("data", include_str!("../kept/data")),
     ("changes", include_str!("../kept/changes")),
     ("editions", include_str!("../kept/editions")),
+    ("no_date", include_str!("../kept/no_date")),
 ];
 
 /// What the recording of the rules shows.

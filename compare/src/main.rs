@@ -14,6 +14,7 @@ mod lent;
 mod library;
 mod misfits;
 mod missing;
+mod no_date;
 mod random;
 mod rewritten;
 mod rules;
@@ -86,6 +87,7 @@ fn walk_family(walk: &mut Walk, family: Family, settings: &Settings, random: u64
         Family::Systematic => {
             configs::walk(walk);
             rewritten::walk(walk);
+            no_date::walk(walk);
             data::walk(walk);
             seams::walk(walk);
             spellings::walk(walk);

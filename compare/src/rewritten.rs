@@ -34,7 +34,7 @@ pub fn walk(walk: &mut Walk) {
 }
 
 /// A configuration written to a kind that goes by its length, so that the kinds take turns.
-fn by_turns(cfg: Vec<u8>) -> Case {
+pub fn by_turns(cfg: Vec<u8>) -> Case {
     let kind = cfg.len() as u32 % 3;
     write_config(cfg, kind)
 }

@@ -6,7 +6,7 @@ use std::str::FromStr;
 /// The word for no numbers at all.
 const NONE: &str = "none";
 
-/// The number in the place of a missing sample: the lowest of 64 bits, which is spelled x.
+/// The number in the place of a missing sample, and of whatever else there is none of, a date or a line: the lowest of 64 bits, which is spelled x.
 pub const MISSING: i64 = i64::MIN;
 
 /// How it is spelled.

@@ -31,13 +31,13 @@ pub struct LastLines {
     leap: i64,
 }
 
-/// What an accepted configuration shows; the last lines are absent in 1999.
+/// What an accepted configuration shows; a recorder without a clock has no date, and the last lines are absent in 1999.
 pub struct Config {
     pub layout: Layout,
     rates: i64,
     pub last_rows: Vec<i64>,
-    first: Moment,
-    trigger: Moment,
+    first: Option<Moment>,
+    trigger: Option<Moment>,
     pub last_lines: Option<LastLines>,
 }
 
@@ -307,15 +307,19 @@ fn sampling(lines: &mut Lines) -> Result<(i64, Vec<i64>), Answer> {
 }
 
 /// dd/mm/yyyy,hh:mm:ss.f: years 1900 to 9999, Gregorian days, hours 00 to 23, minutes and seconds 00 to 59.
-fn moment(line: &Line) -> Result<Moment, Answer> {
+/// A date of zeros with a time of zeros is no date; with any other time field it is 6 at the date, whatever is wrong with the time.
+fn moment(line: &Line) -> Result<Option<Moment>, Answer> {
     let field = line.field(1);
     let [day, month, year] = numbers::date(field.bytes).ok_or(field.no(5))?;
+    if [day, month, year] == [0; 3] && numbers::time(line.field(2).bytes) == Some([0; 4]) {
+        return Ok(None);
+    }
     field.within((1900..=9999).contains(&year) && (1..=12).contains(&month))?;
     field.within((1..=numbers::days_of_month(year, month)).contains(&day))?;
     let field = line.field(2);
     let [hour, minute, second, nanosecond] = numbers::time(field.bytes).ok_or(field.no(5))?;
     field.within(hour <= 23 && minute <= 59 && second <= 59)?;
-    Ok(Moment { year, month, day, hour, minute, second, nanosecond })
+    Ok(Some(Moment { year, month, day, hour, minute, second, nanosecond }))
 }
 
 /// Kind word, 5 to 8 characters, any case; any other 5 to 8 characters, and a kind that the edition lacks, are 6.
@@ -380,15 +384,12 @@ impl Moment {
     }
 }
 
-/// Trigger minus first sample: whole seconds rounded down, and 0 to 999,999,999 nanoseconds.
-fn pre_trigger(first: &Moment, trigger: &Moment) -> [i64; 2] {
+/// Trigger minus first sample: whole seconds rounded down, and 0 to 999,999,999 nanoseconds. It is unknown where either has no date.
+fn pre_trigger(first: Option<&Moment>, trigger: Option<&Moment>) -> Option<[i64; 2]> {
+    let (first, trigger) = (first?, trigger?);
     let seconds = trigger.seconds() - first.seconds();
     let nanoseconds = trigger.nanosecond - first.nanosecond;
-    if nanoseconds < 0 {
-        [seconds - 1, nanoseconds + 1_000_000_000]
-    } else {
-        [seconds, nanoseconds]
-    }
+    Some(if nanoseconds < 0 { [seconds - 1, nanoseconds + 1_000_000_000] } else { [seconds, nanoseconds] })
 }
 
 impl LastLines {
@@ -409,9 +410,10 @@ impl Config {
         for (place, &last_row) in places[4..12].iter_mut().zip(&self.last_rows) {
             *place = last_row;
         }
-        places[12..19].copy_from_slice(&self.first.show());
-        places[19..26].copy_from_slice(&self.trigger.show());
-        places[26..28].copy_from_slice(&pre_trigger(&self.first, &self.trigger));
+        let (first, trigger) = (self.first.as_ref(), self.trigger.as_ref());
+        places[12..19].copy_from_slice(&first.map_or([NONE; 7], Moment::show));
+        places[19..26].copy_from_slice(&trigger.map_or([NONE; 7], Moment::show));
+        places[26..28].copy_from_slice(&pre_trigger(first, trigger).unwrap_or([NONE; 2]));
         places[28] = i64::from(self.layout.kind.number());
         places[29..34].copy_from_slice(&self.last_lines.as_ref().map_or([NONE; 5], LastLines::show));
         places[34] = i64::from(self.layout.edition.year());

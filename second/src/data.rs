@@ -17,7 +17,7 @@ pub const MOST_ROWS: i64 = 1_000_000;
 /// The most bytes of a text row before its line end.
 const MOST_TEXT: usize = 1_880;
 
-/// The place of what there is none of, among numbers of 64 bits: of a missing sample in a row, of a line that the edition lacks in a configuration.
+/// The place of what there is none of, among numbers of 64 bits: of a missing sample in a row; in a configuration of a line that the edition lacks, of no date, of an unknown pre-trigger time.
 pub const NONE: i64 = i64::MIN;
 
 /// The number that means a missing sample in a text of 1999.

@@ -306,8 +306,7 @@ pub fn read<N: Notes>(cfg: &[u8], places: &mut [i64; PLACES], notes: &mut N) -> 
     sampling(&mut lines, &mut places[2..12])?;
     let first = moment(&mut lines, &mut places[12..19])?;
     let trigger = moment(&mut lines, &mut places[19..26])?;
-    places[26] = (trigger - first).div_euclid(1_000_000_000) as i64;
-    places[27] = (trigger - first).rem_euclid(1_000_000_000) as i64;
+    pre_trigger(first, trigger, &mut places[26..28]);
     places[28] = kind(&mut lines, kinds(is_1999))?;
     multiplier(&mut lines, is_1999)?;
     if is_1999 {
@@ -455,15 +454,24 @@ fn day_number(year: i64, month: i64, day: i64) -> i64 {
     365 * year + year / 4 - year / 100 + year / 400 + from_march + day
 }
 
-/// A date line into its seven places; the moment in nanoseconds.
-fn moment<N: Notes>(lines: &mut Reader<N>, places: &mut [i64]) -> Result<i128, Answer> {
+/// Whether a date and a time are zeros only, which is no date.
+fn is_none(date: &[u8], time: &[u8]) -> bool {
+    let zeros = b"00:00:00.000000000";
+    date == b"00/00/0000" && (15..=18).contains(&time.len()) && *time == zeros[..time.len()]
+}
+
+/// A date line into its seven places; the moment in nanoseconds, where there is one.
+fn moment<N: Notes>(lines: &mut Reader<N>, places: &mut [i64]) -> Result<Option<i128>, Answer> {
     lines.next(2)?;
-    let date = lines.field(1);
+    let (date, time) = (lines.field(1), lines.field(2));
+    if is_none(date, time) {
+        places.fill(NONE);
+        return Ok(None);
+    }
     lines.form(1, has_form(date, b"dd/dd/dddd"))?;
     let (day, month, year) = (value(&date[..2]), value(&date[3..5]), value(&date[6..]));
     let right_month = (1900..=9999).contains(&year) && (1..=12).contains(&month);
     lines.range(1, right_month && (1..=month_days(year, month)).contains(&day))?;
-    let time = lines.field(2);
     let form = b"dd:dd:dd.ddddddddd";
     lines.form(2, (15..=18).contains(&time.len()) && has_form(time, &form[..time.len()]))?;
     let (hour, minute, second) = (value(&time[..2]), value(&time[3..5]), value(&time[6..8]));
@@ -471,7 +479,17 @@ fn moment<N: Notes>(lines: &mut Reader<N>, places: &mut [i64]) -> Result<i128, A
     let nanosecond = value(&time[9..]) * 10i64.pow(18 - time.len() as u32);
     places.copy_from_slice(&[year, month, day, hour, minute, second, nanosecond]);
     let seconds = ((day_number(year, month, day) * 24 + hour) * 60 + minute) * 60 + second;
-    Ok(i128::from(seconds) * 1_000_000_000 + i128::from(nanosecond))
+    Ok(Some(i128::from(seconds) * 1_000_000_000 + i128::from(nanosecond)))
+}
+
+/// Seconds and nanoseconds from the first sample to the trigger; unknown where either has no date.
+fn pre_trigger(first: Option<i128>, trigger: Option<i128>, places: &mut [i64]) {
+    let (Some(first), Some(trigger)) = (first, trigger) else {
+        places.fill(NONE);
+        return;
+    };
+    places[0] = (trigger - first).div_euclid(1_000_000_000) as i64;
+    places[1] = (trigger - first).rem_euclid(1_000_000_000) as i64;
 }
 
 /// One of so many kinds.

@@ -92,6 +92,12 @@ const FIELDS: &[&str] = &[
     "00/01/2024",
     "01/01/1899",
     "01/03/0000",
+    "00/00/0000",
+    "00/00/2024",
+    "01/00/0000",
+    "00/00/0001",
+    "0/0/0000",
+    "//",
     "31/12/9999",
     "01/01/1900",
     "24:00:00.000000",
@@ -99,6 +105,10 @@ const FIELDS: &[&str] = &[
     "23:59:59.999999999",
     "00:00:00.0000000000",
     "00:00:00.00000",
+    "00:00:00.000000",
+    "00:00:00.000000000",
+    "00:00:00.000001",
+    "::.",
     "09:15:00.1234567",
     "ascii",
     "BiNaRy32",
@@ -134,6 +144,17 @@ const FIELDS: &[&str] = &[
     "aa",
 ];
 
+/// A date line that passes; one in six is of zeros, which is no date.
+fn moment(dice: &mut Dice) -> String {
+    if dice.once_in(6) {
+        return format!("00/00/0000,00:00:00.{}", "0".repeat(6 + dice.below(4) as usize));
+    }
+    let (day, month, hour) = (1 + dice.below(28), 1 + dice.below(12), dice.below(24));
+    let year = dice.pick(&[1900, 1999, 2000, 2023, 2024, 9999]);
+    let fraction = dice.pick(&["000000", "663700", "6875001", "99999999", "976200000"]);
+    format!("{day:02}/{month:02}/{year},{hour:02}:38:26.{fraction}")
+}
+
 /// The lines of a configuration that passes, with some last rows; one of 1999 ends with the time multiplier.
 fn lines(dice: &mut Dice, a: u64, d: u64) -> Vec<String> {
     let year = dice.pick(&[2013, 2013, 1999]);
@@ -150,12 +171,7 @@ fn lines(dice: &mut Dice, a: u64, d: u64) -> Vec<String> {
     for rate in 0..rates.max(1) {
         lines.push(format!("{},{}", if rates == 0 { 0 } else { 1000 }, 2 + 3 * rate));
     }
-    for _ in 0..2 {
-        let (day, month, hour) = (1 + dice.below(28), 1 + dice.below(12), dice.below(24));
-        let year = dice.pick(&[1900, 1999, 2000, 2023, 2024, 9999]);
-        let fraction = dice.pick(&["000000", "663700", "6875001", "99999999", "976200000"]);
-        lines.push(format!("{day:02}/{month:02}/{year},{hour:02}:38:26.{fraction}"));
-    }
+    lines.extend([moment(dice), moment(dice)]);
     let ends = ["ASCII", "1", "0,0", "0,3"];
     lines.extend(ends[..if year == 1999 { 2 } else { 4 }].iter().map(|line| line.to_string()));
     lines
@@ -198,6 +214,12 @@ pub fn configuration_of_size(dice: &mut Dice, size: usize, word: &str) -> Vec<u8
     }
     let text = lines.join("\r\n").replace("ASCII", word) + "\r\n";
     filled_up(text.as_bytes(), size)
+}
+
+/// How many lines of a configuration begin with a date of zeros, two at most.
+pub fn dates_of_zeros(cfg: &[u8]) -> usize {
+    let lines = cfg.split(|&byte| byte == b'\n').skip(1);
+    lines.filter(|line| line.starts_with(b"00/00/0000,")).count().min(2)
 }
 
 /// A configuration: spaces before numbers in a part, some fields changed in most of them, some bytes in a part.

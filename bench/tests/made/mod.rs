@@ -2,7 +2,7 @@
 
 mod cfg;
 
-pub use cfg::{configuration, configuration_of_size};
+pub use cfg::{configuration, configuration_of_size, dates_of_zeros};
 
 use bench::LayoutNumbers;
 use dice::Dice;

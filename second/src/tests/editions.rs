@@ -18,7 +18,7 @@ const TEXT_2013: LayoutNumbers = LayoutNumbers { edition: 2013, ..TEXT };
 const MARKS: [&str; 6] = ["99999", "+99999", "  99999", "0000000099999", "  +0000099999", "+000000099999"];
 
 /// N: the recording's configuration with year 1999, without its last two lines, some lines replaced.
-fn n_with(changes: &[(usize, &str)]) -> Vec<u8> {
+pub fn n_with(changes: &[(usize, &str)]) -> Vec<u8> {
     let mut lines = S[..11].to_vec();
     lines[0] = "Bench 2,R7,1999";
     for &(line, text) in changes {

@@ -6,6 +6,7 @@ mod data;
 mod editions;
 mod list;
 mod missing;
+mod no_date;
 mod numbers;
 mod of_2013;
 mod write_config;

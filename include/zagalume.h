@@ -19,8 +19,13 @@
  *             play(k, (int32_t)place);
  *     }
  *
- * A configuration of 1999 has no time codes, no quality and no leap code. Their places are then ZL_NONE, never 0: compare
- * with ZL_NONE before you use one.
+ * A configuration of 1999 has no time codes, no quality and no leap code, and one of a recorder without a clock has no date.
+ * Their places are then ZL_NONE, never 0: compare with ZL_NONE before you use one; with what zl_config has shown at hand:
+ *
+ *     if (shown[ZL_SHOWN_TRIGGER] == ZL_NONE)
+ *         say("no date");
+ *     if (shown[ZL_SHOWN_PRE_TRIGGER_SECONDS] == ZL_NONE)
+ *         say("pre-trigger time unknown");
  *
  * What the caller owes, since nothing here can test it:
  *   - A pointer is valid for its whole length, and aligned for its type: readable where it is const, else writable.
@@ -39,8 +44,8 @@
  * edition, as tools/stack measures it:
  *
  *                     x86-64      aarch64
- *     zl_config          1312        1296
- *     zl_write_config    1424        1488
+ *     zl_config          1360        1296
+ *     zl_write_config    1440        1488
  *     zl_check            496         320
  *     zl_row             3024        2896
  *     zl_write_row       2592        2560
@@ -55,7 +60,7 @@
 #include <stdint.h>
 
 /* The version of this header and its library. */
-#define ZL_VERSION "0.4.0"
+#define ZL_VERSION "0.5.0"
 
 #ifdef __cplusplus
 extern "C" {
@@ -97,8 +102,8 @@ enum {
     ZL_REFUSED_BYTE = 3,          /* a byte outside 32 to 126 before the line's end; line, 0 */
     ZL_REFUSED_FIELD_COUNT = 4,   /* wrong number of fields; line, 0 */
     ZL_REFUSED_FORM = 5,          /* a field's length or form; line, field */
-    ZL_REFUSED_VALUE = 6,         /* a field's number, date, kind or code is not allowed, or the edition lacks the kind;
-                                     line, field */
+    ZL_REFUSED_VALUE = 6,         /* a field's number, date, kind or code is not allowed, or the edition lacks the kind; a
+                                     date of zeros whose time is not 00:00:00. and 6 to 9 zeros (at the date); line, field */
     ZL_REFUSED_AGREEMENT = 7,     /* TT is not A + D (at D); a wrong index; a last row that does not rise; max below min
                                      (at max); line, field */
     ZL_REFUSED_YEAR = 8,          /* a year of four digits that is not 2013 or 1999; line, field */
@@ -131,8 +136,13 @@ enum {
 };
 
 /*
- * The places of what zl_config shows. A date and time takes ZL_MOMENT_PLACES, of which the ZL_MOMENT_ names are offsets. The
- * places 29 to 33 are ZL_NONE where the edition is 1999, whose configurations have no lines for them, and never else.
+ * The places of what zl_config shows. A date and time takes ZL_MOMENT_PLACES, of which the ZL_MOMENT_ names are offsets.
+ *   - A line of 00/00/0000 and a time of zeros says that there is no date. All seven places of that date and time are then
+ *     ZL_NONE, and none of them ever is else. How many zeros the time had is not shown.
+ *   - The places 26 and 27 are both ZL_NONE where the first sample, the trigger or both have no date, since the pre-trigger
+ *     time is unknown there, and never else.
+ *   - The places 29 to 33 are ZL_NONE where the edition is 1999, whose configurations have no lines for them, and never
+ *     else.
  */
 enum {
     ZL_SHOWN_ANALOGS = 0,             /* A */
@@ -140,10 +150,10 @@ enum {
     ZL_SHOWN_RATES = 2,               /* number of sampling rates, 0 to 8 */
     ZL_SHOWN_ROWS = 3,
     ZL_SHOWN_LAST_ROWS = 4,           /* ZL_MOST_RATES places, 0 where there is none; with 0 rates there is one */
-    ZL_SHOWN_FIRST_SAMPLE = 12,       /* date and time of the first sample */
-    ZL_SHOWN_TRIGGER = 19,            /* date and time of the trigger */
-    ZL_SHOWN_PRE_TRIGGER_SECONDS = 26, /* trigger minus first sample: whole seconds, rounded down, */
-    ZL_SHOWN_PRE_TRIGGER_NANOSECONDS = 27, /* and 0 to 999,999,999 nanoseconds */
+    ZL_SHOWN_FIRST_SAMPLE = 12,       /* date and time of the first sample, or ZL_NONE seven times */
+    ZL_SHOWN_TRIGGER = 19,            /* date and time of the trigger, or ZL_NONE seven times */
+    ZL_SHOWN_PRE_TRIGGER_SECONDS = 26, /* trigger minus first sample: whole seconds, rounded down, or ZL_NONE */
+    ZL_SHOWN_PRE_TRIGGER_NANOSECONDS = 27, /* and 0 to 999,999,999 nanoseconds, or ZL_NONE */
     ZL_SHOWN_KIND = 28,               /* ZL_ASCII, ZL_BINARY or ZL_BINARY32 */
     ZL_SHOWN_TIME_CODE = 29,          /* signed minutes, or ZL_NONE */
     ZL_SHOWN_LOCAL_IS_X = 30,         /* 1 where the local code is x, 0 where it is not, or ZL_NONE; compare it with 1, since
@@ -154,7 +164,7 @@ enum {
     ZL_SHOWN_EDITION = 34             /* ZL_EDITION_2013 or ZL_EDITION_1999 */
 };
 enum {
-    ZL_MOMENT_YEAR = 0,
+    ZL_MOMENT_YEAR = 0, /* 1900 to 9999, or ZL_NONE where there is no date */
     ZL_MOMENT_MONTH = 1,
     ZL_MOMENT_DAY = 2,
     ZL_MOMENT_HOUR = 3,
@@ -175,11 +185,12 @@ enum {
 };
 
 /*
- * The number for "there is none": the place of a missing sample, and of what a configuration of 1999 has no line for. A
- * time or a status is never missing. Compare before you narrow: ZL_NONE cut to 32 bits is 0, which is a sample, a code and
- * a good quality. In a file a missing sample is 8000 hex in binary, 80000000 hex in binary32, an empty field in ASCII of
- * 2013 and the number 99999 in ASCII of 1999. So whoever reads samples from their bytes looks for that first: taken for a
- * number, it would be a full swing that was never there.
+ * The number for "there is none": the place of a missing sample, of what a configuration of 1999 has no line for, of a date
+ * and time where there is no date, and of a pre-trigger time that is unknown. A time or a status of a row is never missing.
+ * Compare before you narrow: ZL_NONE cut to 32 bits is 0, which is a sample, a code, a good quality and midnight. In a file
+ * a missing sample is 8000 hex in binary, 80000000 hex in binary32, an empty field in ASCII of 2013 and the number 99999 in
+ * ASCII of 1999. So whoever reads samples from their bytes looks for that first: taken for a number, it would be a full
+ * swing that was never there.
  */
 #define ZL_NONE INT64_MIN
 
@@ -191,17 +202,20 @@ static inline int zl_is_missing(int64_t place)
 
 /*
  * Reads a configuration and shows it.
- *   Yes:    ZL_CONFIG_PLACES places of shown are written; the places 29 to 33 are ZL_NONE where the edition is 1999, and no
- *           other place ever is; length is 0.
+ *   Yes:    ZL_CONFIG_PLACES places of shown are written; the places 12 to 18 are ZL_NONE where the first sample has no
+ *           date, 19 to 25 where the trigger has none, 26 and 27 where either has none, 29 to 33 where the edition is 1999,
+ *           and no other place ever is; length is 0.
  *   No:     1; then line by line, in a line the first of 2 and 3 that is met, then 4, then the fields from the left, in
- *           each 5, 6, 8, 7; then 9; last of all 17, where shown has fewer than ZL_CONFIG_PLACES places.
+ *           each 5, 6, 8, 7; then 9; last of all 17, where shown has fewer than ZL_CONFIG_PLACES places. A date of zeros is
+ *           6 at the date wherever its time is not 00:00:00. and 6 to 9 zeros; no refusal is at the time beside it.
  */
 zl_answer zl_config(const uint8_t *cfg, size_t cfg_length, int64_t *shown, size_t shown_length);
 
 /*
  * Writes a configuration for a data file of that kind: the kind's word as ASCII, binary or binary32, numbers and codes
- * without the spaces before them, every other field as it stands, the year too, and CR LF on each line, the last too. What
- * is written is accepted and shows the same in all but the kind, and written again to that kind it stays as it is.
+ * without the spaces before them, every other field as it stands, the year and a date of zeros too, and CR LF on each line,
+ * the last too. What is written is accepted and shows the same in all but the kind, and written again to that kind it stays
+ * as it is.
  *   Yes:    length bytes of out are written, at most 5 more than cfg_length; room of ZL_MOST_CONFIG_BYTES is always enough.
  *   No:     1 to 9 as zl_config refuses the configuration; 10, where there is no such kind, or the configuration's edition
  *           lacks it; 1, where the result would have more than 65,536 bytes; last of all 17, where out is too short.

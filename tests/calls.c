@@ -1,13 +1,16 @@
 /* Calls every function of zagalume.h, as C and as C++: what is answered, and that nothing changes but what an answer reports.
- * One recording, A = 1, D = 1, two rows, and the same with its first sample missing; the same in the edition of 1999; for the forms that take a layout A = 2, D = 1, one row.
+ * One recording, A = 1, D = 1, two rows, and the same with its first sample missing; the same in the edition of 1999, and with no date; for the forms that take a layout A = 2, D = 1, one row.
  * Prints what differs and then how many answers were held. */
 #include "zagalume.h"
 
 #include <stdio.h>
 #include <string.h>
 
-/* The lines after the channels' numbers, up to the kind's word, and after it. */
-#define MIDDLE "1,Ia,A,,A,0.5,0,0,-2048,2047,400,1,S\r\n1,Trip,,,0\r\n50\r\n1\r\n1000,2\r\n03/02/2024,09:15:00.000000\r\n03/02/2024,09:15:00.001000\r\n"
+/* The lines after the channels' numbers, up to the dates; the two of dates; those up to the kind's word, and after it. */
+#define CHANNELS "1,Ia,A,,A,0.5,0,0,-2048,2047,400,1,S\r\n1,Trip,,,0\r\n50\r\n1\r\n1000,2\r\n"
+#define FIRST_SAMPLE "03/02/2024,09:15:00.000000"
+#define TRIGGER "03/02/2024,09:15:00.001000"
+#define MIDDLE CHANNELS FIRST_SAMPLE "\r\n" TRIGGER "\r\n"
 #define END "\r\n1\r\n0,0\r\n0,3"
 
 static const char configuration[] = "Bench 2,R7,2013\r\n2,1A,1D\r\n" MIDDLE "ASCII" END "\r\n";
@@ -245,6 +248,108 @@ static void older_configurations(void)
     judge_no("1999 cut short to binary32", zl_write_config(cfg, length - 5, ZL_BINARY32, out, BYTES), ZL_REFUSED_EARLY_END, 10, 0);
 }
 
+/* The recording's configuration of an edition with these two date lines and this word of its kind, and its length. */
+static char dated[BYTES];
+
+static size_t date(uint32_t edition, const char *first_sample, const char *trigger, const char *word)
+{
+    const char *end = edition == ZL_EDITION_2013 ? END : "\r\n1";
+    int length = snprintf(dated, sizeof dated, "Bench 2,R7,%u\r\n2,1A,1D\r\n" CHANNELS "%s\r\n%s\r\n%s%s\r\n", (unsigned)edition, first_sample, trigger, word, end);
+    return (size_t)length;
+}
+
+static zl_answer show_dated(uint32_t edition, const char *first_sample, const char *trigger)
+{
+    size_t length = date(edition, first_sample, trigger, "ASCII");
+    return zl_config(bytes_of(dated), length, shown, PLACES);
+}
+
+/* Lines that say that there is no date. */
+static const char *const no_dates[] = {"00/00/0000,00:00:00.000000", "00/00/0000,00:00:00.0000000", "00/00/0000,00:00:00.00000000", "00/00/0000,00:00:00.000000000"};
+
+/* Whether so many places from this one on are ZL_NONE, if they should be, and else those of another configuration. */
+static int none_or(int none, const int64_t *other, int place, int count)
+{
+    int right = 1;
+    for (int k = place; k < place + count; k++)
+        right = right && shown[k] == (none ? ZL_NONE : other[k]);
+    return right;
+}
+
+/* What is shown is what the recording's configuration shows, but for a moment whose date is none, and for the pre-trigger time where either is. */
+static void dates_shown(uint32_t edition, const char *first_sample, const char *trigger)
+{
+    int64_t other[ZL_CONFIG_PLACES];
+    int no_first = first_sample != NULL, no_trigger = trigger != NULL;
+    show_dated(edition, FIRST_SAMPLE, TRIGGER);
+    memcpy(other, shown, sizeof other);
+    fill();
+    zl_answer answer = show_dated(edition, no_first ? first_sample : FIRST_SAMPLE, no_trigger ? trigger : TRIGGER);
+    int counts = none_or(0, other, 0, ZL_SHOWN_FIRST_SAMPLE), rest = none_or(0, other, ZL_SHOWN_KIND, ZL_CONFIG_PLACES - ZL_SHOWN_KIND);
+    int moments = none_or(no_first, other, ZL_SHOWN_FIRST_SAMPLE, ZL_MOMENT_PLACES) && none_or(no_trigger, other, ZL_SHOWN_TRIGGER, ZL_MOMENT_PLACES);
+    int span = none_or(no_first || no_trigger, other, ZL_SHOWN_PRE_TRIGGER_SECONDS, 2);
+    judge("what a configuration with no date shows", counts && moments && span && rest && untouched(0, ZL_CONFIG_PLACES));
+    judge_yes("a configuration with no date", answer, NULL, 0, 0);
+}
+
+/* A date line that is refused, as the first sample's, at line 8, and as the trigger's, at line 9, whether the other has a date or none. */
+static void no_such_date(uint32_t edition, const char *line, uint32_t number, uint32_t field)
+{
+    judge_no("a first sample", show_dated(edition, line, TRIGGER), number, 8, field);
+    judge_no("a first sample and no trigger", show_dated(edition, line, no_dates[0]), number, 8, field);
+    judge_no("a trigger", show_dated(edition, FIRST_SAMPLE, line), number, 9, field);
+    judge_no("a trigger and no first sample", show_dated(edition, no_dates[0], line), number, 9, field);
+    judge_no("two bad dates", show_dated(edition, line, line), number, 8, field);
+}
+
+/* A date line that has no date is written as it stands, with as many zeros. */
+static void dates_written(uint32_t edition, const char *first_sample, const char *trigger)
+{
+    char binary[BYTES];
+    size_t binary_length = date(edition, first_sample, trigger, "binary");
+    memcpy(binary, dated, sizeof binary);
+    size_t length = date(edition, first_sample, trigger, "ASCII");
+    judge_yes("no date to binary", zl_write_config(bytes_of(dated), length, ZL_BINARY, out, BYTES), binary, (uint32_t)binary_length, 0);
+    judge_yes("no date to text", zl_write_config(bytes_of(binary), binary_length, ZL_ASCII, out, BYTES), dated, (uint32_t)length, 0);
+}
+
+static void dates_of(uint32_t edition)
+{
+    static const char *const values[] = {"00/00/2024,00:00:00.000000", "00/01/2024,00:00:00.000000", "01/00/2024,00:00:00.000000", "01/01/0000,00:00:00.000000", "00/00/0001,00:00:00.000000",
+        "00/00/0000,09:15:00.001000", "00/00/0000,00:00:00.000001", "00/00/0000,00:00:00.000000001", "00/00/0000,01:00:00.000000", "00/00/0000,24:00:00.000000", "00/00/0000,00:00:00.00000",
+        "00/00/0000,00:00:00.0000000000", "00/00/0000,00:00:00", "00/00/0000, 00:00:00.000000", "00/00/0000,00:00:00.000000 ", "00/00/0000,::.", "00/00/0000,x", "00/00/0000,"};
+    static const char *const forms[] = {"0/0/0000,00:00:00.000000", "00/00/000,00:00:00.000000", " 00/00/0000,00:00:00.000000", "//,::.", "//,00:00:00.000000", ",00:00:00.000000", ","};
+    static const char *const counts[] = {"00/00/0000", "", "00/00/0000,00:00:00.000000,", "00/00/0000,00:00:00,000000"};
+    dates_shown(edition, NULL, NULL);
+    for (size_t k = 0; k < sizeof no_dates / sizeof no_dates[0]; k++) {
+        dates_shown(edition, no_dates[k], NULL);
+        dates_shown(edition, NULL, no_dates[k]);
+        dates_shown(edition, no_dates[k], no_dates[3 - k]);
+        dates_written(edition, no_dates[k], TRIGGER);
+        dates_written(edition, FIRST_SAMPLE, no_dates[k]);
+        dates_written(edition, no_dates[k], no_dates[3 - k]);
+    }
+    for (size_t k = 0; k < sizeof values / sizeof values[0]; k++)
+        no_such_date(edition, values[k], ZL_REFUSED_VALUE, 1);
+    for (size_t k = 0; k < sizeof forms / sizeof forms[0]; k++)
+        no_such_date(edition, forms[k], ZL_REFUSED_FORM, 1);
+    for (size_t k = 0; k < sizeof counts / sizeof counts[0]; k++)
+        no_such_date(edition, counts[k], ZL_REFUSED_FIELD_COUNT, 0);
+    no_such_date(edition, "03/02/2024,00:00:00.00000", ZL_REFUSED_FORM, 2);
+}
+
+static void dates(void)
+{
+    dates_of(ZL_EDITION_2013);
+    dates_of(ZL_EDITION_1999);
+    zl_answer answer = show_dated(ZL_EDITION_2013, "03/02/2024,00:00:00.000000", "03/02/2024,00:00:00.000000000");
+    int midnight = shown[ZL_SHOWN_TRIGGER] == 2024 && shown[ZL_SHOWN_TRIGGER + ZL_MOMENT_HOUR] == 0 && shown[ZL_SHOWN_TRIGGER + ZL_MOMENT_NANOSECOND] == 0;
+    judge("what midnight shows", midnight && shown[ZL_SHOWN_PRE_TRIGGER_SECONDS] == 0 && shown[ZL_SHOWN_PRE_TRIGGER_NANOSECONDS] == 0);
+    judge_yes("midnight", answer, NULL, 0, 0);
+    date(ZL_EDITION_2013, no_dates[0], no_dates[0], "ASCII");
+    judge_no("no date and a place too few", zl_config(bytes_of(dated), strlen(dated), shown, ZL_CONFIG_PLACES - 1), ZL_REFUSED_NO_ROOM, 0, 0);
+}
+
 /* A number that is no edition's, or a kind that the edition lacks, is told by every call before it looks at anything else. */
 static void no_layout(uint32_t kind, uint32_t edition)
 {
@@ -417,6 +522,7 @@ int main(void)
     files();
     missing_samples();
     older_configurations();
+    dates();
     editions();
     older_samples();
     layouts();

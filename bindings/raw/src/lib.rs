@@ -12,8 +12,8 @@ pub struct Answer {
     pub length: u32,
 }
 
-/// The place of a missing sample in a row that is shown or written, and of what a configuration of 1999 has no line for. Compare before you narrow: cut to 32 bits it is 0,
-/// which is a sample, a code and a good quality.
+/// The place of a missing sample in a row that is shown or written, of what a configuration of 1999 has no line for, of a date and time where there is no date, and of a
+/// pre-trigger time that is unknown. Compare before you narrow: cut to 32 bits it is 0, which is a sample, a code, a good quality and midnight.
 pub const ZL_NONE: i64 = i64::MIN;
 
 #[rustfmt::skip]

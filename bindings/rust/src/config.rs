@@ -16,12 +16,12 @@ pub struct Config {
     pub rows: u32,
     /// The last row of each rate, 0 where there is none. With 0 rates there is one, the number of rows.
     pub last_rows: [u32; limits::MOST_RATES],
-    /// Date and time of the first sample.
-    pub first_sample: Moment,
-    /// Date and time of the trigger.
-    pub trigger: Moment,
-    /// Trigger minus first sample.
-    pub pre_trigger: PreTrigger,
+    /// Date and time of the first sample; `None` where its line says that there is no date: 00/00/0000 and a time of zeros.
+    pub first_sample: Option<Moment>,
+    /// Date and time of the trigger; `None` likewise.
+    pub trigger: Option<Moment>,
+    /// Trigger minus first sample; `None` where either has no date, so that it is unknown, and never else.
+    pub pre_trigger: Option<PreTrigger>,
     /// The kind of the data file.
     pub kind: Kind,
     /// What the last two lines say; `None` where the edition is 1999, which has no such lines, and never else.
@@ -92,7 +92,7 @@ impl Config {
             last_rows,
             first_sample: Moment::shown(&p[12..19]),
             trigger: Moment::shown(&p[19..26]),
-            pre_trigger: PreTrigger { seconds: p[26], nanoseconds: p[27] as u32 },
+            pre_trigger: PreTrigger::shown(&p[26..28]),
             kind: Kind::of_number(p[28] as u32).expect("an accepted configuration shows a kind"),
             last: LastLines::shown(&p[29..34]),
             edition: Edition::of_year(p[34] as u32).expect("an accepted configuration shows an edition"),
@@ -116,9 +116,12 @@ impl LastLines {
 }
 
 impl Moment {
-    /// The moment that seven places show.
-    fn shown(p: &[i64]) -> Moment {
-        Moment {
+    /// The moment that seven places show, where there is a date. That there is none comes first: cut short, `ZL_NONE` is midnight.
+    fn shown(p: &[i64]) -> Option<Moment> {
+        if p[0] == ZL_NONE {
+            return None;
+        }
+        Some(Moment {
             year: p[0] as u16,
             month: p[1] as u8,
             day: p[2] as u8,
@@ -126,20 +129,43 @@ impl Moment {
             minute: p[4] as u8,
             second: p[5] as u8,
             nanosecond: p[6] as u32,
+        })
+    }
+}
+
+impl PreTrigger {
+    /// The time that two places show, where it is known.
+    fn shown(p: &[i64]) -> Option<PreTrigger> {
+        if p[0] == ZL_NONE {
+            return None;
         }
+        Some(PreTrigger { seconds: p[0], nanoseconds: p[1] as u32 })
     }
 }
 
 /// Reads a configuration: the bytes of the whole file. Nothing is allocated.
 ///
-/// Refused with 1; then line by line, in a line the first of 2 and 3 that is met, then 4, then the fields from the left, in each 5, 6, 8, 7; then 9.
+/// Refused with 1; then line by line, in a line the first of 2 and 3 that is met, then 4, then the fields from the left, in each 5, 6, 8, 7; then 9. A date of zeros is 6 at
+/// the date wherever its time is not 00:00:00. and 6 to 9 zeros.
 ///
 /// ```
 /// let cfg = include_bytes!("../../../examples/one.cfg");
 /// let config = zagalume::read_config(cfg)?;
 /// assert_eq!((config.analogs, config.statuses, config.rows), (1, 1, 2));
 /// assert_eq!(config.kind, zagalume::Kind::Ascii);
-/// assert_eq!((config.pre_trigger.seconds, config.pre_trigger.nanoseconds), (0, 1_000_000));
+/// assert_eq!(config.pre_trigger, Some(zagalume::PreTrigger { seconds: 0, nanoseconds: 1_000_000 }));
+/// # Ok::<(), zagalume::Refusal>(())
+/// ```
+///
+/// A recorder without a clock has no date:
+///
+/// ```
+/// let config = zagalume::read_config(include_bytes!("../../../examples/no-clock.cfg"))?;
+/// match config.trigger {
+///     Some(moment) => println!("{}/{}/{}", moment.day, moment.month, moment.year),
+///     None => println!("no date"),
+/// }
+/// assert_eq!((config.first_sample, config.trigger, config.pre_trigger), (None, None, None));
 /// # Ok::<(), zagalume::Refusal>(())
 /// ```
 ///
@@ -161,7 +187,7 @@ pub fn read_config(cfg: &[u8]) -> Result<Config, Refusal> {
 }
 
 /// The configuration for a data file of that kind: the kind's word as [`Kind::word`] has it, numbers and codes without the spaces before them, every other field as it
-/// stands, the year too, and CR LF on each line. It is accepted and shows the same in all but the kind, and written again to that kind it stays as it is.
+/// stands, the year and a date of zeros too, and CR LF on each line. It is accepted and shows the same in all but the kind, and written again to that kind it stays as it is.
 ///
 /// Refused as [`read_config`]; then with 10, where its edition lacks the kind; then with 1, where it would have more than 65,536 bytes.
 ///

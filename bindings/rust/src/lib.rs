@@ -6,7 +6,8 @@
 //! with it. A file that breaks a rule gives a [`Refusal`], with its number and its place; [`reason`] says a number in words. On a refusal nothing that was lent has
 //! changed.
 //!
-//! A sample may be missing, and is then no number: a [`Sample`] says which. A configuration of 1999 has no time codes and no quality: [`Config::last`] is then `None`.
+//! A sample may be missing, and is then no number: a [`Sample`] says which. A configuration of 1999 has no time codes and no quality: [`Config::last`] is then `None`. One of
+//! a recorder without a clock has no date: [`Config::first_sample`] or [`Config::trigger`] is then `None`, or both are, and with either [`Config::pre_trigger`].
 //!
 //! ```no_run
 //! use zagalume::Sample;

@@ -76,7 +76,7 @@ pub mod refused {
     pub const FIELD_COUNT: u32 = 4;
     /// A field's length or form; at that line and field.
     pub const FORM: u32 = 5;
-    /// A field's number, date, kind or code is not allowed, or the edition lacks the kind; at that line and field.
+    /// A field's number, date, kind or code is not allowed, or the edition lacks the kind; at that line and field. A date of zeros whose time is not 00:00:00. and 6 to 9 zeros; at the date.
     pub const VALUE: u32 = 6;
     /// TT is not A + D (at D), a wrong index, a last row that does not rise, or max below min (at max); at that line and field.
     pub const AGREEMENT: u32 = 7;

@@ -1,5 +1,5 @@
-//! Two recordings in their three kinds, from the repository's examples, one of them with missing samples, and one of the edition of 1999 in its two: read, checked, shown,
-//! written and changed.
+//! Two recordings in their three kinds, from the repository's examples, one of them with missing samples, one of the edition of 1999 in its two, and one without a date: read,
+//! checked, shown, written and changed.
 
 use zagalume::{Config, Edition, Kind, LastLines, Layout, Moment, PreTrigger, Row, Sample};
 
@@ -42,6 +42,12 @@ const OLDER: [(&[u8], &[u8], Kind); 2] = [
     ),
 ];
 
+/// The first recording, by a recorder without a clock.
+const NO_CLOCK: &[u8] = include_bytes!("../../../examples/no-clock.cfg");
+
+/// A line that says that there is no date.
+const NO_DATE: &str = "00/00/0000,00:00:00.000000";
+
 fn layout(kind: Kind) -> Layout {
     Layout { analogs: 1, statuses: 1, rows: 2, kind, edition: Edition::Year2013 }
 }
@@ -78,8 +84,8 @@ fn a_configuration_shows_every_field() {
         let config = zagalume::read_config(cfg).unwrap();
         assert_eq!(config.layout(), layout(kind));
         assert_eq!((config.rates, config.last_rows), (1, [2, 0, 0, 0, 0, 0, 0, 0]));
-        assert_eq!((config.first_sample, config.trigger), (moment(0), moment(1_000_000)));
-        assert_eq!(config.pre_trigger, PreTrigger { seconds: 0, nanoseconds: 1_000_000 });
+        assert_eq!((config.first_sample, config.trigger), (Some(moment(0)), Some(moment(1_000_000))));
+        assert_eq!(config.pre_trigger, Some(PreTrigger { seconds: 0, nanoseconds: 1_000_000 }));
         let last = LastLines { time_code: 0, local_code: Some(0), quality: 0, leap_code: 3 };
         assert_eq!((config.edition, config.last), (Edition::Year2013, Some(last)));
     }
@@ -91,8 +97,67 @@ fn codes_quality_and_a_trigger_before_the_first_sample() {
     let swapped = text.replace("00.000000", "00.5").replace("00.001000", "00.000000").replace("00.5", "00.001000");
     let cfg = swapped.replace("\r\n0,0\r\n0,3", "\r\n-5h30,x\r\nF,1");
     let config = zagalume::read_config(cfg.as_bytes()).unwrap();
-    assert_eq!(config.pre_trigger, PreTrigger { seconds: -1, nanoseconds: 999_000_000 });
+    assert_eq!(config.pre_trigger, Some(PreTrigger { seconds: -1, nanoseconds: 999_000_000 }));
     assert_eq!(config.last, Some(LastLines { time_code: -330, local_code: None, quality: 15, leap_code: 1 }));
+}
+
+/// The first recording, of either edition, with these two date lines.
+fn dated(cfg: &[u8], first_sample: &str, trigger: &str) -> Vec<u8> {
+    let text = String::from_utf8(cfg.to_vec()).unwrap();
+    let text = text.replace("03/02/2024,09:15:00.000000", first_sample);
+    text.replace("03/02/2024,09:15:00.001000", trigger).into_bytes()
+}
+
+#[test]
+fn the_example_without_a_clock() {
+    let config = zagalume::read_config(NO_CLOCK).unwrap();
+    assert_eq!((config.first_sample, config.trigger, config.pre_trigger), (None, None, None));
+    let shown = zagalume::read_config(ONE[0].0).unwrap();
+    let last = shown.last.map(|lines| LastLines { quality: 15, ..lines });
+    assert_eq!(config, Config { first_sample: None, trigger: None, pre_trigger: None, last, ..shown });
+    let dat = include_bytes!("../../../examples/no-clock.dat");
+    zagalume::check(config.layout(), dat).unwrap();
+    for (n, row) in (1..).zip(rows()) {
+        assert_eq!(zagalume::row(config.layout(), dat, n).unwrap(), row);
+    }
+}
+
+#[test]
+fn either_date_may_be_none_and_the_pre_trigger_time_is_then_unknown() {
+    let (first_sample, trigger) = ("03/02/2024,09:15:00.000000", "03/02/2024,09:15:00.001000");
+    for cfg in [ONE[0].0, OLDER[0].0] {
+        let shown = zagalume::read_config(cfg).unwrap();
+        let read = |first: &str, second: &str| zagalume::read_config(&dated(cfg, first, second)).unwrap();
+        for zeros in 6..=9 {
+            let none = format!("00/00/0000,00:00:00.{}", "0".repeat(zeros));
+            let neither = Config { first_sample: None, trigger: None, pre_trigger: None, ..shown };
+            assert_eq!(read(&none, NO_DATE), neither);
+            assert_eq!(read(NO_DATE, &none), neither);
+            assert_eq!(read(&none, trigger), Config { first_sample: None, pre_trigger: None, ..shown });
+            assert_eq!(read(first_sample, &none), Config { trigger: None, pre_trigger: None, ..shown });
+        }
+    }
+}
+
+#[test]
+fn midnight_is_a_date() {
+    let midnight = Moment { year: 1900, month: 1, day: 1, hour: 0, minute: 0, second: 0, nanosecond: 0 };
+    let line = "01/01/1900,00:00:00.000000000";
+    let config = zagalume::read_config(&dated(ONE[0].0, line, line)).unwrap();
+    assert_eq!((config.first_sample, config.trigger), (Some(midnight), Some(midnight)));
+    assert_eq!(config.pre_trigger, Some(PreTrigger { seconds: 0, nanoseconds: 0 }));
+}
+
+#[test]
+fn no_date_is_written_as_it_stands() {
+    for (cfg, new_cfg, new_kind) in [(ONE[0].0, ONE[2].0, Kind::Binary32), (OLDER[0].0, OLDER[1].0, Kind::Binary)] {
+        for trigger in ["00/00/0000,00:00:00.000000000", "03/02/2024,09:15:00.001000"] {
+            let written = zagalume::write_config(&dated(cfg, NO_DATE, trigger), new_kind).unwrap();
+            assert_eq!(written, dated(new_cfg, NO_DATE, trigger));
+            assert_eq!(zagalume::write_config(&written, Kind::Ascii).unwrap(), dated(cfg, NO_DATE, trigger));
+        }
+    }
+    assert_eq!(zagalume::write_config(NO_CLOCK, Kind::Ascii).unwrap(), NO_CLOCK);
 }
 
 #[test]

@@ -135,6 +135,46 @@ fn configurations_of_1999() {
 }
 
 #[test]
+fn dates_of_zeros() {
+    let lines = ["03/02/2024,09:15:00.000000", "03/02/2024,09:15:00.001000"];
+    for cfg in ["one.cfg", "one-1999.cfg"].map(|name| String::from_utf8(example(name)).unwrap()) {
+        for (at, line) in (8..).zip(lines) {
+            let refused_with = |text: &str| zagalume::read_config(cfg.replace(line, text).as_bytes()).unwrap_err();
+            let zeros = "00:00:00.000000";
+            for date in ["00/00/2024", "00/01/2024", "01/00/2024", "01/01/0000", "00/00/0001", "00/01/0000"] {
+                assert_eq!(refused_with(&format!("{date},{zeros}")), no(refused::VALUE, at, 1), "{date}");
+                assert_eq!(refused_with(&format!("{date},bad")), no(refused::VALUE, at, 1), "{date}");
+            }
+            for time in [
+                "09:15:00.001000",
+                "00:00:00.000001",
+                "00:00:00.000000001",
+                "24:00:00.000000",
+                "00:00:00.00000",
+                "00:00:00.0000000000",
+                "00:00:00",
+                " 00:00:00.000000",
+                "00:00:00.000000 ",
+                "::.",
+                "bad",
+                "",
+            ] {
+                assert_eq!(refused_with(&format!("00/00/0000,{time}")), no(refused::VALUE, at, 1), "{time}");
+            }
+            for date in ["0/0/0000", "00/00/000", "00/00/00000", " 00/00/0000", "00-00-0000", "//", ""] {
+                assert_eq!(refused_with(&format!("{date},{zeros}")), no(refused::FORM, at, 1), "{date}");
+            }
+            assert_eq!(refused_with("//,::"), no(refused::FORM, at, 1));
+            assert_eq!(refused_with("//,::."), no(refused::FORM, at, 1));
+            assert_eq!(refused_with("03/02/2024,00:00:00.00000"), no(refused::FORM, at, 2));
+            for text in ["00/00/0000", "", "00/00/0000,00:00:00.000000,", "00/00/0000,00:00:00,000000"] {
+                assert_eq!(refused_with(text), no(refused::FIELD_COUNT, at, 0), "{text}");
+            }
+        }
+    }
+}
+
+#[test]
 fn texts_of_1999() {
     let older = Layout { edition: Edition::Year1999, ..layout(1, 1, 1, Kind::Ascii) };
     let check = |sample: &str| zagalume::check(older, format!("1,0,{sample},0\r\n").as_bytes());

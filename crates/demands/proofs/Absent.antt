@@ -11,7 +11,7 @@ use native.Mathlib.Omega.{arith}
 use borrow.Author.Tests.{ne-eqb}
 use lib.Dec.{ltb, leb}
 use lib.IntN.{ℤ, pos, subℕ, _-ℤ_}
-use lib.ListN.{length, getD, replicate, List·getD-append}
+use lib.ListN.{length, getD, getD-replicate, List·getD-append}
 use lib.Seq.{getD-append-add}
 use Rattle.ground.specs.Said.{says}
 use Rattle.ground.specs.Tables.{every}
@@ -115,12 +115,6 @@ lines-there Y2013 x t (y, l, m, q, codes, quality, r) =
     let k : y ≡ x = cc in
     rw (← k, code-there (y .code) (codes .is .f 1) (codes .is .time), bool-there (y .x), local-there (y .local) (y .x) (codes .is .f 2) (codes .is .place))
 
--- places of which each is the number for "there is none"
-none-at : (n i : ℕ) → i < n → getD (replicate n none) i (pos 0) ≡ none
-none-at zero i h = absurd (omega arith)
-none-at (suc n) zero h = refl
-none-at (suc n) (suc i) h = none-at n i (omega arith)
-
 -- the places from low to high are that number exactly where P holds
 abbrev pub NoneIn : ℕ → ℕ → Type 0 → List ℤ → Type 0
 NoneIn low high P zs = (j : ℕ) → low ≤ j → j ≤ high → getD zs j (pos 0) ≡ none ↔ P
@@ -142,7 +136,7 @@ behind-none n low high P zs ys e h j x y =
 
 end-none : (e : Edition) (v : Last) (t : List ℕ) → EndLines e v t → NoneIn 0 4 (v ≡ Absent) (endPlaces v)
 end-none e (Lines x) t w j h k = (λ q. absurd (all-there (endPlaces (Lines x)) (lines-there e x t w) j q), λ q. clash (cc))
-end-none e Absent t w j h k = (λ q. refl, λ q. none-at 5 j (omega arith))
+end-none e Absent t w j h k = (λ q. refl, λ q. getD-replicate 5 j none (pos 0) (omega arith))
 
 moment-there : (m : Moment) → AllThere (momentPlaces m)
 unfolding isNone isLowest
@@ -150,7 +144,7 @@ moment-there m = refl
 
 stamp-none : (s : Stamp) → NoneIn 0 6 (s ≡ None) (stampPlaces s)
 stamp-none (At m) j h k = (λ q. absurd (all-there (momentPlaces m) (moment-there m) j q), λ q. clash (cc))
-stamp-none None j h k = (λ q. refl, λ q. none-at 7 j (omega arith))
+stamp-none None j h k = (λ q. refl, λ q. getD-replicate 7 j none (pos 0) (omega arith))
 
 span-there : (d : Span) → There (d .seconds) → AllThere (pretriggerPlaces (Is d))
 unfolding isNone isLowest
@@ -167,7 +161,7 @@ pretrigger-there None b h g d e = clash (cc)
 
 pretrigger-none : (f t : Stamp) → Calendar f → Calendar t → (p : Pretrigger) → pretriggerOf f t ≡ p → NoneIn 0 1 (p ≡ Unknown) (pretriggerPlaces p)
 pretrigger-none f t h g (Is d) e j x y = (λ q. absurd (all-there (pretriggerPlaces (Is d)) (span-there d (pretrigger-there f t h g d e)) j q), λ q. clash (cc))
-pretrigger-none f t h g Unknown e j x y = (λ q. refl, λ q. none-at 2 j (omega arith))
+pretrigger-none f t h g Unknown e j x y = (λ q. refl, λ q. getD-replicate 2 j none (pos 0) (omega arith))
 
 -- WHICH OF THE 35 PLACES ARE "there is none": those of a date line exactly where it has no date, those of the pre-trigger time where it is unknown, those of the last lines where these are absent
 pub record NoneShown (c : Config) (zs : List ℤ) : Type 0 where

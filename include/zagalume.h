@@ -46,10 +46,11 @@
  *                     x86-64      aarch64
  *     zl_config          1360        1296
  *     zl_write_config    1440        1488
- *     zl_check            560         320
+ *     zl_check            496         320
  *     zl_row             3024        2896
  *     zl_write_row       2592        2560
- *     zl_change          3328        3280
+ *     zl_length          2144        1984
+ *     zl_change          3696        3504
  *     zl_reason           736         736
  */
 #ifndef ZAGALUME_H
@@ -59,7 +60,7 @@
 #include <stdint.h>
 
 /* The version of this header and its library. */
-#define ZL_VERSION "0.6.0"
+#define ZL_VERSION "0.5.0"
 
 #ifdef __cplusplus
 extern "C" {
@@ -70,8 +71,7 @@ typedef struct zl_answer {
     uint32_t number; /* 0 for yes; for no the refusal's number */
     uint32_t at;     /* on no the line of the configuration or the row of the data file, from 1; 0 for the whole file */
     uint32_t field;  /* on no the field, from 1; 0 for the whole line or row */
-    uint32_t length; /* on yes the length in bytes where the call has one; on zl_change's 17 the length that the new file
-                        takes; else 0 */
+    uint32_t length; /* on yes the length in bytes, where the call has one; else 0 */
 } zl_answer;
 
 /* The kinds of data file. Any other number is refused with ZL_REFUSED_LAYOUT. */
@@ -119,7 +119,7 @@ enum {
     ZL_REFUSED_NO_SUCH_ROW = 15,  /* there is no such row; 0, 0 */
     ZL_REFUSED_MISFIT = 16,       /* a sample does not fit the kind that is written, or a time or status of a lent row its
                                      field; row, field. A missing sample fits every kind */
-    ZL_REFUSED_NO_ROOM = 17       /* what is lent to be written is too short; 0, 0. That of zl_change alone has a length */
+    ZL_REFUSED_NO_ROOM = 17       /* what is lent to be written is too short; 0, 0 */
 };
 
 /* The limits. */
@@ -262,13 +262,19 @@ zl_answer zl_write_row(uint32_t a, uint32_t d, uint32_t rows, uint32_t kind, uin
                        const int64_t *row, size_t row_length, uint8_t *out, size_t out_length);
 
 /*
+ * How many bytes the data file has once it is changed to new_kind.
+ *   Yes:    length is that number; nothing is written.
+ *   No:     as zl_change, but never 17.
+ */
+zl_answer zl_length(uint32_t a, uint32_t d, uint32_t rows, uint32_t kind, uint32_t edition, const uint8_t *data,
+                    size_t data_length, uint32_t new_kind);
+
+/*
  * Changes a data file from its kind to new_kind, which may be the same: a text then comes out in its plain form. The edition
- * stays as it is. A missing sample fits every kind and stays missing. Lend what zl_change_room tells, and one call does.
+ * stays as it is. A missing sample fits every kind and stays missing.
  *   Yes:    length bytes of out are written, the new file; a text ends with the end mark, 1A 0D 0A hex.
  *   No:     10, of the layout and of new_kind, which the edition must have; then the file, as zl_check; 16 at the first row
- *           and field whose sample is a number that does not fit new_kind; last of all 17, where out is too short. Beside 17
- *           length is that of the new file, and so much room is enough; who must know it first lends nothing, out null and
- *           out_length 0. Beside every other refusal it is 0.
+ *           and field whose sample is a number that does not fit new_kind; last of all 17, where out is too short.
  */
 zl_answer zl_change(uint32_t a, uint32_t d, uint32_t rows, uint32_t kind, uint32_t edition, const uint8_t *data,
                     size_t data_length, uint32_t new_kind, uint8_t *out, size_t out_length);
@@ -346,52 +352,16 @@ static inline zl_answer zl_write_row_in(zl_layout layout, uint32_t n, const int6
     return zl_write_row(layout.a, layout.d, layout.rows, layout.kind, layout.edition, n, row, row_length, out, out_length);
 }
 
+static inline zl_answer zl_length_in(zl_layout layout, const uint8_t *data, size_t data_length, uint32_t new_kind)
+{
+    return zl_length(layout.a, layout.d, layout.rows, layout.kind, layout.edition, data, data_length, new_kind);
+}
+
 static inline zl_answer zl_change_in(zl_layout layout, const uint8_t *data, size_t data_length, uint32_t new_kind,
                                      uint8_t *out, size_t out_length)
 {
     return zl_change(layout.a, layout.d, layout.rows, layout.kind, layout.edition, data, data_length, new_kind, out,
                      out_length);
-}
-
-/* The product, and the sum, of two sizes; the largest size where it would be larger. */
-static inline size_t zl_size_times(size_t one, size_t other)
-{
-    return other != 0 && one > SIZE_MAX / other ? SIZE_MAX : one * other;
-}
-
-static inline size_t zl_size_plus(size_t one, size_t other)
-{
-    return one > SIZE_MAX - other ? SIZE_MAX : one + other;
-}
-
-/* The bytes of a row of a kind: of a binary kind all that it has, of ASCII the most that it has in the plain form. */
-static inline size_t zl_most_in_row(zl_layout layout, uint32_t kind)
-{
-    size_t samples = zl_size_times(layout.a, kind == ZL_ASCII ? 12 : kind == ZL_BINARY32 ? 4 : 2);
-    size_t statuses = zl_size_times(kind == ZL_ASCII ? layout.d : layout.d / 16 + (layout.d % 16 != 0 ? 1 : 0), 2);
-    return zl_size_plus(kind == ZL_ASCII ? 20 : 8, zl_size_plus(samples, statuses));
-}
-
-/*
- * The room, in bytes, that is always enough to change a data file of length bytes: where so much is lent, zl_change never
- * answers 17. A file that is refused gets its own refusal, since 17 comes last. w is 2 for binary and 4 for binary32:
- *   from ASCII to ASCII           length, and 3
- *   from a binary kind to ASCII   14 times length, or rows times (20 + 12 a + 2 d) where that is less, and 3
- *   from ASCII to a binary kind   4 times length, or rows times (8 + w a + 2 ((d + 15) / 16)) where that is less
- *   from a binary kind to one     2 times length, or rows times (8 + w a + 2 ((d + 15) / 16)) where that is less
- * To a binary kind it is just the length of the new file, where the file is accepted. It is bounded by length, whatever
- * number of rows the layout has: to ASCII at most 14 times length, and 3; to a binary kind at most 4 times length, so 0 for
- * an empty file. The numbers follow from a row of ASCII having 5 + a + 2 d bytes at the least, and in the plain form
- * 20 + 12 a + 2 d at the most.
- */
-static inline size_t zl_change_room(zl_layout layout, size_t length, uint32_t new_kind)
-{
-    const size_t end_mark = 3;
-    if (layout.kind == ZL_ASCII && new_kind == ZL_ASCII)
-        return zl_size_plus(length, end_mark);
-    size_t by_length = zl_size_times(length, new_kind == ZL_ASCII ? 14 : layout.kind == ZL_ASCII ? 4 : 2);
-    size_t by_rows = zl_size_times(layout.rows, zl_most_in_row(layout, new_kind));
-    return zl_size_plus(by_rows < by_length ? by_rows : by_length, new_kind == ZL_ASCII ? end_mark : 0);
 }
 
 #ifdef __cplusplus

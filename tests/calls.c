@@ -66,13 +66,6 @@ static void judge_no(const char *what, zl_answer answer, uint32_t number, uint32
     judge(what, told && untouched(0, 0));
 }
 
-/* The change's 17, which alone has a length: that of the new file. */
-static void judge_short(const char *what, zl_answer answer, uint32_t length)
-{
-    int told = answer.number == ZL_REFUSED_NO_ROOM && answer.at == 0 && answer.field == 0 && answer.length == length;
-    judge(what, told && untouched(0, 0));
-}
-
 /* A yes that wrote these bytes, or none, and so many places. */
 static void judge_yes(const char *what, zl_answer answer, const void *bytes, uint32_t length, size_t places)
 {
@@ -143,146 +136,14 @@ static void files(void)
     judge_no("no such kind", zl_check(1, 1, 2, 3, ZL_EDITION_2013, NULL, 0), ZL_REFUSED_LAYOUT, 0, 0);
     judge_no("no channels", zl_check(0, 0, 2, ZL_ASCII, ZL_EDITION_2013, NULL, 0), ZL_REFUSED_LAYOUT, 0, 0);
     judge_no("channels that wrap", zl_check(UINT32_MAX, 2, 2, ZL_ASCII, ZL_EDITION_2013, NULL, 0), ZL_REFUSED_LAYOUT, 0, 0);
-    judge_short("no room for binary", zl_change(1, 1, 2, ZL_ASCII, ZL_EDITION_2013, text, TEXT_LENGTH, ZL_BINARY, NULL, 0), 24);
-    judge_no("nothing and no room", zl_change(1, 1, 2, ZL_ASCII, ZL_EDITION_2013, NULL, 0, ZL_BINARY, NULL, 0), ZL_REFUSED_FILE_LENGTH, 1, 0);
-    judge_no("no such new kind and no room", zl_change(1, 1, 2, ZL_ASCII, ZL_EDITION_2013, NULL, 0, 3, NULL, 0), ZL_REFUSED_LAYOUT, 0, 0);
+    judge_yes("the length", zl_length(1, 1, 2, ZL_ASCII, ZL_EDITION_2013, text, TEXT_LENGTH, ZL_BINARY), NULL, 24, 0);
+    judge_no("the length of nothing", zl_length(1, 1, 2, ZL_ASCII, ZL_EDITION_2013, NULL, 0, ZL_BINARY), ZL_REFUSED_FILE_LENGTH, 1, 0);
+    judge_no("no such new kind", zl_length(1, 1, 2, ZL_ASCII, ZL_EDITION_2013, NULL, 0, 3), ZL_REFUSED_LAYOUT, 0, 0);
     judge_yes("text to binary", zl_change(1, 1, 2, ZL_ASCII, ZL_EDITION_2013, text, TEXT_LENGTH, ZL_BINARY, out, BYTES), binary_file, 24, 0);
     judge_yes("binary to text", zl_change(1, 1, 2, ZL_BINARY, ZL_EDITION_2013, binary, 24, ZL_ASCII, out, 27), text_file, 27, 0);
-    judge_short("no room for text", zl_change(1, 1, 2, ZL_BINARY, ZL_EDITION_2013, binary, 24, ZL_ASCII, NULL, 0), 27);
+    judge_no("no room", zl_change(1, 1, 2, ZL_BINARY, ZL_EDITION_2013, binary, 24, ZL_ASCII, NULL, 0), ZL_REFUSED_NO_ROOM, 0, 0);
     judge_no("a change of nothing", zl_change(1, 1, 2, ZL_BINARY, ZL_EDITION_2013, NULL, 0, ZL_ASCII, NULL, 0), ZL_REFUSED_FILE_LENGTH, 0, 0);
     judge_no("a change to no kind", zl_change(1, 1, 2, ZL_BINARY, ZL_EDITION_2013, binary, 24, 3, out, BYTES), ZL_REFUSED_LAYOUT, 0, 0);
-}
-
-/* A file changed to a kind whose new file has these bytes: with every room that is too short the answer tells its length, and exact room is enough. */
-static void with_any_room(zl_layout layout, const uint8_t *data, size_t length, uint32_t new_kind, const void *bytes, uint32_t new_length)
-{
-    judge_short("no room", zl_change_in(layout, data, length, new_kind, NULL, 0), new_length);
-    for (uint32_t room = 0; room < new_length; room++)
-        judge_short("too little room", zl_change_in(layout, data, length, new_kind, out, room), new_length);
-    judge_yes("exact room", zl_change_in(layout, data, length, new_kind, out, new_length), bytes, new_length, 0);
-    judge_yes("a byte more", zl_change_in(layout, data, length, new_kind, out, new_length + 1), bytes, new_length, 0);
-    judge_yes("room to spare", zl_change_in(layout, data, length, new_kind, out, 100), bytes, new_length, 0);
-}
-
-/* The change's 17 has the length that the new file takes; every other refusal, and the 17 of every other call, has none. */
-static void lengths(void)
-{
-    static const uint8_t binary32[] = {1, 0, 0, 0, 0, 0, 0, 0, 0xFD, 0xFF, 0xFF, 0xFF, 0, 0, 2, 0, 0, 0, 0xE8, 3, 0, 0, 0x2C, 1, 0, 0, 1, 0};
-    static const uint8_t highest[] = {1, 0, 0, 0, 0, 0, 0, 0, 0xFF, 0x7F};
-    static const int64_t row[] = {0, -3, 0};
-    const uint8_t *text = bytes_of(text_file), *misfit = bytes_of("1,0,32768\r\n"), *fits = bytes_of("1,0,32767\r\n");
-    zl_layout layout = {1, 1, 2, ZL_ASCII, ZL_EDITION_2013}, lone = {1, 0, 1, ZL_ASCII, ZL_EDITION_2013};
-    with_any_room(layout, text, TEXT_LENGTH, ZL_BINARY, binary_file, 24);
-    with_any_room(layout, text, TEXT_LENGTH, ZL_BINARY32, binary32, 28);
-    with_any_room(layout, text, TEXT_LENGTH, ZL_ASCII, text_file, 27);
-    with_any_room(lone, fits, 11, ZL_BINARY, highest, 10);
-    judge_no("kind 7 and no room", zl_change_in(layout, text, TEXT_LENGTH, 7, NULL, 0), ZL_REFUSED_LAYOUT, 0, 0);
-    judge_no("kind 7 and a byte", zl_change_in(layout, text, TEXT_LENGTH, 7, out, 1), ZL_REFUSED_LAYOUT, 0, 0);
-    judge_no("an empty file and no room", zl_change_in(layout, NULL, 0, ZL_BINARY, NULL, 0), ZL_REFUSED_FILE_LENGTH, 1, 0);
-    judge_no("a misfit and no room", zl_change_in(lone, misfit, 11, ZL_BINARY, NULL, 0), ZL_REFUSED_MISFIT, 1, 3);
-    judge_no("a misfit and 9 bytes", zl_change_in(lone, misfit, 11, ZL_BINARY, out, 9), ZL_REFUSED_MISFIT, 1, 3);
-    lone.edition = ZL_EDITION_1999;
-    judge_no("binary32 in 1999 and no room", zl_change_in(lone, bytes_of("1,0,99999\r\n"), 11, ZL_BINARY32, NULL, 0), ZL_REFUSED_LAYOUT, 0, 0);
-    judge_no("a row and 3 bytes", zl_write_row(1, 1, 2, ZL_ASCII, ZL_EDITION_2013, 1, row, 3, out, 3), ZL_REFUSED_NO_ROOM, 0, 0);
-    judge_no("a row and no room", zl_write_row(1, 1, 2, ZL_BINARY, ZL_EDITION_2013, 1, row, 3, NULL, 0), ZL_REFUSED_NO_ROOM, 0, 0);
-    judge_no("a configuration and 3 bytes", zl_write_config(bytes_of(configuration), sizeof configuration - 1, ZL_BINARY, out, 3), ZL_REFUSED_NO_ROOM, 0, 0);
-    judge_no("a configuration and 3 places", zl_config(bytes_of(configuration), sizeof configuration - 1, shown, 3), ZL_REFUSED_NO_ROOM, 0, 0);
-    judge_no("a row and 2 places", zl_row_in(layout, text, TEXT_LENGTH, 1, shown, 2), ZL_REFUSED_NO_ROOM, 0, 0);
-    judge_no("a reason and a byte", zl_reason(ZL_REFUSED_NO_ROOM, out, 1), ZL_REFUSED_NO_ROOM, 0, 0);
-}
-
-/* What zl_change_room tells: by the length of the file, but for text to text by the rows where that is less, and never more than a size can be. */
-static void told_rooms(void)
-{
-    const zl_layout text = {1, 1, 2, ZL_ASCII, ZL_EDITION_2013}, binary = {1, 1, 2, ZL_BINARY, ZL_EDITION_2013}, binary32 = {1, 1, 2, ZL_BINARY32, ZL_EDITION_2013};
-    const zl_layout largest = {96, 256, 1000000, ZL_BINARY32, ZL_EDITION_2013}, none = {UINT32_MAX, UINT32_MAX, UINT32_MAX, ZL_BINARY, ZL_EDITION_2013};
-    const size_t of_largest_text[] = {SIZE_MAX, 24, 28};
-    judge("room from text to text", zl_change_room(text, 27, ZL_ASCII) == 30 && zl_change_room(text, 0, ZL_ASCII) == 3);
-    judge("room from text to binary", zl_change_room(text, 27, ZL_BINARY) == 24 && zl_change_room(text, 5, ZL_BINARY) == 20 && zl_change_room(text, 0, ZL_BINARY) == 0);
-    judge("room from text to binary32", zl_change_room(text, 27, ZL_BINARY32) == 28 && zl_change_room(text, 6, ZL_BINARY32) == 24);
-    judge("room from binary to text", zl_change_room(binary, 24, ZL_ASCII) == 2 * 34 + 3 && zl_change_room(binary, 1, ZL_ASCII) == 14 + 3);
-    judge("room from binary32 to text", zl_change_room(binary32, 28, ZL_ASCII) == 2 * 34 + 3 && zl_change_room(binary32, 4, ZL_ASCII) == 4 * 14 + 3);
-    judge("room from binary to binary", zl_change_room(binary, 24, ZL_BINARY) == 24 && zl_change_room(binary, 24, ZL_BINARY32) == 28 && zl_change_room(binary, 11, ZL_BINARY32) == 22);
-    judge("room from binary32 to binary", zl_change_room(binary32, 28, ZL_BINARY) == 24 && zl_change_room(binary32, 28, ZL_BINARY32) == 28 && zl_change_room(binary32, 11, ZL_BINARY) == 22);
-    judge("room of the largest layout", zl_change_room(largest, 424000000, ZL_ASCII) == 1684000003);
-    judge("room of the largest layout in a binary kind", zl_change_room(largest, 424000000, ZL_BINARY) == 232000000 && zl_change_room(largest, 424000000, ZL_BINARY32) == 424000000);
-    judge("room of a short file in the largest layout", zl_change_room(largest, 100, ZL_ASCII) == 1403 && zl_change_room(largest, 100, ZL_BINARY) == 200);
-    judge("room of a short file in no layout", zl_change_room(none, 100, ZL_ASCII) == 1403 && zl_change_room(none, 100, ZL_BINARY32) == 200);
-    for (uint32_t kind = ZL_ASCII; kind <= ZL_BINARY32; kind++) {
-        judge("room of the largest size from text", zl_change_room(text, SIZE_MAX, kind) == of_largest_text[kind]);
-        judge("room of the largest size in no layout", zl_change_room(none, SIZE_MAX, kind) == SIZE_MAX);
-    }
-    judge("room near the largest size", zl_change_room(text, SIZE_MAX - 4, ZL_ASCII) == SIZE_MAX - 1 && zl_change_room(none, SIZE_MAX / 2, ZL_BINARY32) == SIZE_MAX - 1);
-}
-
-/* Rows of the largest layouts, before and after a change. */
-enum { MOST_ROOM = 3 * 4 * ZL_MOST_ROW_BYTES };
-static uint8_t wide_file[3 * ZL_MOST_ROW_BYTES], wide_room[MOST_ROOM];
-
-/* A file of equal rows, with no end mark: its length. */
-static size_t write_rows(zl_layout layout, const int64_t *row)
-{
-    size_t length = 0;
-    for (uint32_t n = 1; n <= layout.rows; n++)
-        length += zl_write_row_in(layout, n, row, 1 + layout.a + layout.d, wide_file + length, ZL_MOST_ROW_BYTES).length;
-    return length;
-}
-
-/* Such a file is changed at the first call with the room that zl_change_room tells, and nothing past the new file is touched. */
-static void room_is_enough(zl_layout layout, const int64_t *row, uint32_t new_kind)
-{
-    size_t length = write_rows(layout, row), room = zl_change_room(layout, length, new_kind);
-    judge_yes("a wide file", zl_check_in(layout, wide_file, length), NULL, 0, 0);
-    judge("room that can be lent", length > 0 && room <= MOST_ROOM);
-    memset(wide_room, 7, sizeof wide_room);
-    zl_answer answer = zl_change_in(layout, wide_file, length, new_kind, wide_room, room);
-    size_t end = MOST_ROOM;
-    while (end > answer.length && wide_room[end - 1] == 7)
-        end--;
-    judge("room that is enough", answer.number == ZL_YES && answer.length > 0 && answer.length <= room && end == answer.length);
-    judge("room of just the new file in a binary kind", new_kind == ZL_ASCII || answer.length == room);
-}
-
-/* Every change within an edition of rows with this time, these samples and these statuses, at both ends of every sort of layout. */
-static void rooms_of(uint32_t edition, int64_t time, int64_t sample, int64_t status)
-{
-    static const uint32_t channels[][2] = {{0, 256}, {96, 0}, {96, 256}, {1, 0}, {0, 1}, {0, 16}, {0, 17}, {1, 1}};
-    int64_t row[ZL_MOST_ROW_PLACES];
-    uint32_t kinds = edition == ZL_EDITION_1999 ? 2 : 3;
-    for (uint32_t k = 0; k < 8 * 2 * kinds * kinds; k++) {
-        const uint32_t *count = channels[k % 8];
-        zl_layout layout = {count[0], count[1], 1 + k / 8 % 2 * 2, k / 16 % kinds, edition};
-        row[ZL_ROW_TIME] = time;
-        for (uint32_t place = 1; place < ZL_MOST_ROW_PLACES; place++)
-            row[place] = place <= layout.a ? sample : status;
-        room_is_enough(layout, row, k / 16 / kinds);
-    }
-}
-
-/* The longest plain rows, of numbers that no sample of binary is. */
-static void longest_rooms(void)
-{
-    const zl_layout text = {96, 256, 3, ZL_ASCII, ZL_EDITION_2013}, binary32 = {96, 256, 3, ZL_BINARY32, ZL_EDITION_2013};
-    int64_t row[ZL_MOST_ROW_PLACES];
-    row[ZL_ROW_TIME] = UINT32_MAX;
-    for (int place = 1; place < ZL_MOST_ROW_PLACES; place++)
-        row[place] = place <= 96 ? -INT32_MAX : 1;
-    room_is_enough(binary32, row, ZL_ASCII);
-    room_is_enough(text, row, ZL_ASCII);
-    room_is_enough(text, row, ZL_BINARY32);
-}
-
-static void rooms(void)
-{
-    static const uint32_t both[] = {ZL_EDITION_2013, ZL_EDITION_1999};
-    told_rooms();
-    for (int k = 0; k < 2; k++) {
-        rooms_of(both[k], 0, ZL_NONE, 0);
-        rooms_of(both[k], UINT32_MAX, ZL_NONE, 1);
-        rooms_of(both[k], 0, 0, 0);
-        rooms_of(both[k], UINT32_MAX, -32767, 1);
-    }
-    longest_rooms();
 }
 
 /* The recording with its first sample missing, by kind, and its first row in places. */
@@ -306,7 +167,7 @@ static void missing_in(uint32_t kind)
     judge_yes("a missing sample written", zl_write_row(1, 1, 2, kind, ZL_EDITION_2013, 1, missing_row, 3, out, BYTES), data, missing_rows[kind], 0);
     judge_no("a missing sample with no room", zl_write_row(1, 1, 2, kind, ZL_EDITION_2013, 1, missing_row, 3, out, missing_rows[kind] - 1), ZL_REFUSED_NO_ROOM, 0, 0);
     for (uint32_t new_kind = ZL_ASCII; new_kind <= ZL_BINARY32; new_kind++) {
-        judge_short("no room for a missing sample changed", zl_change(1, 1, 2, kind, ZL_EDITION_2013, data, length, new_kind, NULL, 0), missing_lengths[new_kind]);
+        judge_yes("the length with a missing sample", zl_length(1, 1, 2, kind, ZL_EDITION_2013, data, length, new_kind), NULL, missing_lengths[new_kind], 0);
         judge_yes("a missing sample changed", zl_change(1, 1, 2, kind, ZL_EDITION_2013, data, length, new_kind, out, BYTES), missing_files[new_kind], missing_lengths[new_kind], 0);
     }
 }
@@ -496,7 +357,7 @@ static void no_layout(uint32_t kind, uint32_t edition)
     judge_no("a check in no layout", zl_check(1, 1, 2, kind, edition, NULL, 0), ZL_REFUSED_LAYOUT, 0, 0);
     judge_no("a row in no layout", zl_row(1, 1, 2, kind, edition, NULL, 0, 3, shown, PLACES), ZL_REFUSED_LAYOUT, 0, 0);
     judge_no("a row written in no layout", zl_write_row(1, 1, 2, kind, edition, 1, row, 3, out, BYTES), ZL_REFUSED_LAYOUT, 0, 0);
-    judge_no("no room in no layout", zl_change(1, 1, 2, kind, edition, NULL, 0, ZL_ASCII, NULL, 0), ZL_REFUSED_LAYOUT, 0, 0);
+    judge_no("the length in no layout", zl_length(1, 1, 2, kind, edition, NULL, 0, ZL_ASCII), ZL_REFUSED_LAYOUT, 0, 0);
     judge_no("a change in no layout", zl_change(1, 1, 2, kind, edition, NULL, 0, ZL_ASCII, out, BYTES), ZL_REFUSED_LAYOUT, 0, 0);
 }
 
@@ -509,10 +370,10 @@ static void editions(void)
     no_layout(ZL_BINARY32, ZL_EDITION_1999);
     no_layout(3, ZL_EDITION_1999);
     judge_yes("a text of 1999", zl_check(1, 1, 2, ZL_ASCII, ZL_EDITION_1999, text, TEXT_LENGTH), NULL, 0, 0);
-    judge_short("no room in 1999", zl_change(1, 1, 2, ZL_ASCII, ZL_EDITION_1999, text, TEXT_LENGTH, ZL_BINARY, NULL, 0), 24);
+    judge_yes("the length in 1999", zl_length(1, 1, 2, ZL_ASCII, ZL_EDITION_1999, text, TEXT_LENGTH, ZL_BINARY), NULL, 24, 0);
     judge_yes("text to binary in 1999", zl_change(1, 1, 2, ZL_ASCII, ZL_EDITION_1999, text, TEXT_LENGTH, ZL_BINARY, out, BYTES), binary_file, 24, 0);
     judge_yes("binary to text in 1999", zl_change(1, 1, 2, ZL_BINARY, ZL_EDITION_1999, binary_file, 24, ZL_ASCII, out, 27), text_file, 27, 0);
-    judge_no("no room for binary32 in 1999", zl_change(1, 1, 2, ZL_ASCII, ZL_EDITION_1999, NULL, 0, ZL_BINARY32, NULL, 0), ZL_REFUSED_LAYOUT, 0, 0);
+    judge_no("the length in binary32 of 1999", zl_length(1, 1, 2, ZL_ASCII, ZL_EDITION_1999, NULL, 0, ZL_BINARY32), ZL_REFUSED_LAYOUT, 0, 0);
     judge_no("text to binary32 in 1999", zl_change(1, 1, 2, ZL_ASCII, ZL_EDITION_1999, text, TEXT_LENGTH, ZL_BINARY32, out, BYTES), ZL_REFUSED_LAYOUT, 0, 0);
     judge_no("binary to binary32 in 1999", zl_change(1, 1, 2, ZL_BINARY, ZL_EDITION_1999, binary_file, 24, ZL_BINARY32, out, BYTES), ZL_REFUSED_LAYOUT, 0, 0);
 }
@@ -599,9 +460,9 @@ static void layouts(void)
     judge_yes("a row written in a layout", zl_write_row_in(layout, 1, row, 4, out, 14), text, 14, 0);
     judge_no("a row of three places in a layout", zl_write_row_in(layout, 1, row, 3, out, BYTES), ZL_REFUSED_LAYOUT, 0, 0);
     judge_no("13 bytes in a layout", zl_write_row_in(layout, 1, row, 4, out, 13), ZL_REFUSED_NO_ROOM, 0, 0);
-    judge_short("no room in a layout", zl_change_in(layout, data, length, ZL_BINARY32, NULL, 0), 18);
+    judge_yes("the length in a layout", zl_length_in(layout, data, length, ZL_BINARY32), NULL, 18, 0);
     judge_yes("a change in a layout", zl_change_in(layout, data, length, ZL_BINARY32, out, 18), binary32, 18, 0);
-    judge_short("17 bytes in a layout", zl_change_in(layout, data, length, ZL_BINARY32, out, 17), 18);
+    judge_no("17 bytes in a layout", zl_change_in(layout, data, length, ZL_BINARY32, out, 17), ZL_REFUSED_NO_ROOM, 0, 0);
 }
 
 /* Each form hands the edition on: in 1999 a missing sample is 99999, and binary32 is no kind; in an edition of 0 nothing is. */
@@ -618,15 +479,15 @@ static void layouts_of_editions(void)
     judge("what a row in 1999 shows", memcmp(shown, row, sizeof row) == 0 && untouched(0, 4));
     judge_yes("a row in 1999", answer, NULL, 0, 0);
     judge_yes("a row written in 1999", zl_write_row_in(layout, 1, row, 4, out, BYTES), text, 17, 0);
-    judge_short("no room in a layout of 1999", zl_change_in(layout, data, length, ZL_BINARY, NULL, 0), 14);
+    judge_yes("the length in a layout of 1999", zl_length_in(layout, data, length, ZL_BINARY), NULL, 14, 0);
     judge_yes("a change in 1999", zl_change_in(layout, data, length, ZL_BINARY, out, BYTES), binary, 14, 0);
-    judge_no("no room for binary32 in a layout of 1999", zl_change_in(layout, data, length, ZL_BINARY32, NULL, 0), ZL_REFUSED_LAYOUT, 0, 0);
+    judge_no("the length to binary32 in a layout of 1999", zl_length_in(layout, data, length, ZL_BINARY32), ZL_REFUSED_LAYOUT, 0, 0);
     judge_no("a change to binary32 in 1999", zl_change_in(layout, data, length, ZL_BINARY32, out, BYTES), ZL_REFUSED_LAYOUT, 0, 0);
     layout.edition = 0;
     judge_no("a check in no edition", zl_check_in(layout, data, length), ZL_REFUSED_LAYOUT, 0, 0);
     judge_no("a row in no edition", zl_row_in(layout, data, length, 1, shown, PLACES), ZL_REFUSED_LAYOUT, 0, 0);
     judge_no("a row written in no edition", zl_write_row_in(layout, 1, row, 4, out, BYTES), ZL_REFUSED_LAYOUT, 0, 0);
-    judge_no("no room in no edition", zl_change_in(layout, data, length, ZL_BINARY, NULL, 0), ZL_REFUSED_LAYOUT, 0, 0);
+    judge_no("the length in no edition", zl_length_in(layout, data, length, ZL_BINARY), ZL_REFUSED_LAYOUT, 0, 0);
     judge_no("a change in no edition", zl_change_in(layout, data, length, ZL_BINARY, out, BYTES), ZL_REFUSED_LAYOUT, 0, 0);
 }
 
@@ -659,8 +520,6 @@ int main(void)
     written_configurations();
     rows();
     files();
-    lengths();
-    rooms();
     missing_samples();
     older_configurations();
     dates();

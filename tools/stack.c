@@ -56,6 +56,11 @@ static zl_answer make_write_row(const struct call *c)
     return zl_write_row(A, D, ROWS, c->kind, editions[c->edition], ROWS, row, ZL_MOST_ROW_PLACES, out, c->room);
 }
 
+static zl_answer make_length(const struct call *c)
+{
+    return zl_length(A, D, ROWS, c->kind, editions[c->edition], files[c->edition][c->kind], file_lengths[c->edition][c->kind], c->new_kind);
+}
+
 static zl_answer make_change(const struct call *c)
 {
     return zl_change(A, D, ROWS, c->kind, editions[c->edition], files[c->edition][c->kind], file_lengths[c->edition][c->kind], c->new_kind, out, c->room);
@@ -194,10 +199,11 @@ int main(void)
     static const struct call check = {"zl_check", make_check, 0, 0, 0, 0, {0, 0, 0, 0}};
     static const struct call show = {"zl_row", make_row, 0, 0, 0, ZL_MOST_ROW_PLACES, {0, 0, 0, 0}};
     static const struct call write = {"zl_write_row", make_write_row, 0, 0, 0, sizeof out, {0, 0, 0, 0}};
+    static const struct call length = {"zl_length", make_length, 0, 0, 0, 0, {0, 0, 0, 0}};
     static const struct call change = {"zl_change", make_change, 0, 0, 0, sizeof out, {0, 0, 0, 0}};
     static const struct call reason = {"zl_reason", make_reason, 0, 0, 0, sizeof out, {0, 0, 0, 0}};
-    const struct call *const calls[] = {&config, &write_config, &check, &show, &write, &change, &reason};
-    const uint32_t numbers[] = {1, 3, 1, 1, 1, 3, ZL_REFUSED_NO_ROOM};
+    const struct call *const calls[] = {&config, &write_config, &check, &show, &write, &length, &change, &reason};
+    const uint32_t numbers[] = {1, 3, 1, 1, 1, 3, 3, ZL_REFUSED_NO_ROOM};
     void *memory;
     if (posix_memalign(&memory, 4096, STACK_WORDS * sizeof *stack) != 0)
         return 1;

@@ -6,16 +6,11 @@ use bench::Answer;
 
 const KINDS: [&str; 3] = ["ASCII", "binary", "binary32"];
 
-const ASK_CHANGE: &str = "ask-change";
-
 /// The edition of all jobs but the checks that say another.
 const EDITION: u32 = 2013;
 
 /// The kind for which configurations are written: binary, which theirs is too.
 const WRITTEN_KIND: u32 = 1;
-
-/// The changes that are measured asked first too: the old kind and the new one.
-const ASKED: [(u32, u32); 5] = [(0, 0), (0, 1), (1, 0), (1, 2), (2, 1)];
 
 /// Which configuration is written.
 #[derive(Clone, Copy, PartialEq, Eq)]
@@ -33,10 +28,7 @@ pub enum Job {
     Check(u32, u32),
     Show(u32),
     Write(u32),
-    /// The old kind and the new one.
     Change(u32, u32),
-    /// The same as a caller does it who asks first: with no room, which tells the length, and then with just that room.
-    AskChange(u32, u32),
 }
 
 impl Job {
@@ -47,25 +39,8 @@ impl Job {
         jobs.push(Job::Check(0, 1999));
         jobs.extend((0..3).map(Job::Show));
         jobs.extend((0..3).map(Job::Write));
-        for (old, new) in (0..9).map(|pair| (pair / 3, pair % 3)) {
-            jobs.push(Job::Change(old, new));
-            jobs.extend(ASKED.contains(&(old, new)).then_some(Job::AskChange(old, new)));
-        }
+        jobs.extend((0..9).map(|pair| Job::Change(pair / 3, pair % 3)));
         jobs
-    }
-
-    /// The change that it is held against, where it is one that is asked first.
-    pub fn one_call(self) -> Option<Job> {
-        match self {
-            Job::AskChange(old, new) => Some(Job::Change(old, new)),
-            _ => None,
-        }
-    }
-
-    /// Whether it is measured where the jobs of one name are asked for: those, and what they are held against.
-    pub fn is_wanted(self, name: &str) -> bool {
-        let asked_first = matches!(self, Job::Change(old, new) if ASKED.contains(&(old, new)));
-        self.name() == name || asked_first && name == ASK_CHANGE
     }
 
     pub fn name(self) -> &'static str {
@@ -76,7 +51,6 @@ impl Job {
             Job::Show(_) => "show",
             Job::Write(_) => "write",
             Job::Change(..) => "change",
-            Job::AskChange(..) => ASK_CHANGE,
         }
     }
 
@@ -86,9 +60,7 @@ impl Job {
             Job::WriteConfig(Source::Longest) => "longest text".to_string(),
             Job::Check(kind, 1999) => format!("{} of 1999", KINDS[kind as usize]),
             Job::Check(kind, _) | Job::Show(kind) | Job::Write(kind) => KINDS[kind as usize].to_string(),
-            Job::Change(old, new) | Job::AskChange(old, new) => {
-                format!("{} to {}", KINDS[old as usize], KINDS[new as usize])
-            }
+            Job::Change(old, new) => format!("{} to {}", KINDS[old as usize], KINDS[new as usize]),
         }
     }
 
@@ -97,7 +69,7 @@ impl Job {
         match self {
             Job::Config | Job::WriteConfig(_) => true,
             Job::Check(kind, _) | Job::Show(kind) | Job::Write(kind) => kind == 0,
-            Job::Change(old, new) | Job::AskChange(old, new) => old == 0 || new == 0,
+            Job::Change(old, new) => old == 0 || new == 0,
         }
     }
 
@@ -106,7 +78,7 @@ impl Job {
         self != Job::WriteConfig(Source::Longest) || recording.longest_cfg.is_some()
     }
 
-    /// How often the file counts in one pass: for each row shown, since every such call checks all of it; else once.
+    /// How many calls of one pass each walk the whole file.
     pub fn walks(self, recording: &Recording) -> u64 {
         match self {
             Job::Show(_) => recording.shown.len() as u64,
@@ -114,15 +86,14 @@ impl Job {
         }
     }
 
-    /// The bytes of one pass that reported `length`: read by config, write-config, check, change and, counted once,
-    /// ask-change; walked by show, in each of its calls; written by write.
+    /// The bytes of one pass that reported `length`: read by config, write-config, check and change; walked by show, in
+    /// each of its calls; written by write.
     pub fn bytes(self, recording: &Recording, length: u64) -> u64 {
         let file = |kind: u32| recording.files[kind as usize].len() as u64;
         match self {
             Job::Config => recording.cfg.len() as u64,
             Job::WriteConfig(source) => source_cfg(recording, source).len() as u64,
-            Job::Check(kind, _) | Job::Show(kind) => file(kind) * self.walks(recording),
-            Job::Change(kind, _) | Job::AskChange(kind, _) => file(kind),
+            Job::Check(kind, _) | Job::Show(kind) | Job::Change(kind, _) => file(kind) * self.walks(recording),
             Job::Write(_) => length,
         }
     }
@@ -192,10 +163,6 @@ pub fn pass(job: Job, program: &Program, recording: &Recording, buffers: &mut Bu
         }
         Job::Write(kind) => write_all(program, recording, kind, buffers),
         Job::Change(old, new) => accepted((program.change)(layout(old), data(old), new, &mut buffers.out)),
-        Job::AskChange(old, new) => {
-            let length = told((program.change)(layout(old), data(old), new, &mut []));
-            accepted((program.change)(layout(old), data(old), new, &mut buffers.out[..length]))
-        }
     }
 }
 
@@ -211,12 +178,6 @@ fn write_all(program: &Program, recording: &Recording, kind: u32, buffers: &mut 
         next = if next + 1 < kept.len() { next + 1 } else { 0 };
     }
     at
-}
-
-/// The length that a change without room tells.
-fn told(answer: Answer) -> usize {
-    assert_eq!(answer.number, 17, "a change without room was answered otherwise: {answer:?}");
-    answer.length as usize
 }
 
 fn accepted(answer: Answer) -> u64 {

@@ -1,7 +1,7 @@
 //! The library's exported calls, lent slices as it wants them: a pointer, then a length.
 
 use crate::{Answer, LayoutNumbers};
-use zagalume_raw::{zl_change, zl_check, zl_config, zl_row, zl_write_config, zl_write_row};
+use zagalume_raw::{zl_change, zl_check, zl_config, zl_length, zl_row, zl_write_config, zl_write_row};
 
 // Each call below lends live slices for the time of the call, which is all that the library asks of its caller.
 
@@ -32,6 +32,11 @@ pub fn write_row(l: LayoutNumbers, n: u32, row: &[i64], out: &mut [u8]) -> Answe
     unsafe {
         zl_write_row(l.a, l.d, l.rows, l.kind, l.edition, n, row.as_ptr(), row.len(), out.as_mut_ptr(), out.len())
     }
+}
+
+/// The bytes needed for a change of kind.
+pub fn length(l: LayoutNumbers, data: &[u8], new_kind: u32) -> Answer {
+    unsafe { zl_length(l.a, l.d, l.rows, l.kind, l.edition, data.as_ptr(), data.len(), new_kind) }
 }
 
 /// Changes a data file to another kind.

@@ -14,8 +14,7 @@ use recording::Recording;
 use std::process::ExitCode;
 use std::time::{Duration, Instant};
 
-const USAGE: &str =
-    "bench [--rows N] [--job config|write-config|check|show|write|change|ask-change] [--layout A,D] [--quick]";
+const USAGE: &str = "bench [--rows N] [--job config|write-config|check|show|write|change] [--layout A,D] [--quick]";
 
 const LAYOUTS: [(u32, u32); 3] = [(1, 1), (8, 16), (96, 256)];
 
@@ -87,7 +86,7 @@ fn run(choice: &Choice) -> Vec<Figure> {
             let recording = Recording::new(a, d, rows, machine::free_memory(), choice.most_shown());
             let mut buffers = Buffers::new(&recording);
             for job in Job::all() {
-                if choice.job.as_ref().is_some_and(|name| !job.is_wanted(name)) || !job.fits(&recording) {
+                if choice.job.as_ref().is_some_and(|name| name != job.name()) || !job.fits(&recording) {
                     continue;
                 }
                 let figure = measure(job, &recording, &mut buffers, choice.effort());
@@ -100,12 +99,11 @@ fn run(choice: &Choice) -> Vec<Figure> {
 }
 
 const NOTES: &str = "\
-- MB is 1,000,000 bytes: of the configuration for config and write-config; of the file for check, change and ask-change;
-  of the file for each row shown, since every call checks the whole file; written for write
+- MB is 1,000,000 bytes: of the configuration for config and write-config; of the file for check and change; of the file
+  for each row shown, since every call checks the whole file; written for write
 - check of ASCII of 1999: the text file of 2013, which is one of 1999 too
 - write-config: to binary, which the configuration's own kind is; of the largest layout also one of 65,536 bytes, with
   long names and a space before each real
-- ask-change: the change is called with no room, which tells the length, and then with just that room
 - the programs take turns, round after round; the best round of each counts; a pass of over 8 seconds is taken once
 - buffers: input and output are made and touched before any timing and used again in every pass, so no page is new to a
   pass; the output is filled anew before each program's first pass, whose bytes are compared, and not cleared after that
@@ -126,7 +124,6 @@ fn main() -> ExitCode {
     println!("\n## Speed\n\n{}", report::SPEED_HEAD);
     let figures = run(&choice);
     println!("\n## One row shown\n\n{}", report::show_table(&figures));
-    println!("## Asked first and then changed, against one call\n\n{}", report::asked_table(&figures));
     println!("## How cost grows with rows (a configuration counts as one row)\n\n{}", report::growth_table(&figures));
     println!("## Short of the targets\n\n{}", report::shortfalls(&figures));
     println!("Load of the last minute at the end: {}; {} s in all.", machine::load(), begun.elapsed().as_secs());

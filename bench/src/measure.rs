@@ -29,7 +29,7 @@ pub struct Figure {
     pub wanted_rows: u32,
     pub bytes: u64,
     pub rows_walked: u64,
-    /// How often the file counts: for each row shown, which is a call of its own, or once.
+    /// Calls that each walk the whole file.
     pub walks: u64,
     pub rounds: u32,
     /// Seconds of one pass by each program, the best round.

@@ -7,16 +7,15 @@ use crate::programs::{COUNT, LIBRARY, PROGRAMS, SECOND, TUNED};
 /// Least speed of the check of text, in millions of bytes a second.
 const TEXT_CHECK_TARGET: f64 = 450.0;
 
-/// Least ratio of the library to the tuned program; a change that is asked first has none.
-fn target(figure: &Figure) -> Option<f64> {
+/// Least ratio of the library to the tuned program.
+fn target(figure: &Figure) -> f64 {
     match figure.job {
-        Job::AskChange(..) => None,
-        Job::Check(0, _) => Some(0.85),
-        Job::Check(..) if (figure.a, figure.d) == (1, 1) => Some(0.85),
-        Job::Check(..) => Some(0.9),
-        Job::Change(old, new) if old != 0 && new != 0 => Some(0.9),
-        job if job.has_text() => Some(0.8),
-        _ => Some(1.0),
+        Job::Check(0, _) => 0.85,
+        Job::Check(..) if (figure.a, figure.d) == (1, 1) => 0.85,
+        Job::Check(..) => 0.9,
+        Job::Change(old, new) if old != 0 && new != 0 => 0.9,
+        job if job.has_text() => 0.8,
+        _ => 1.0,
     }
 }
 
@@ -89,28 +88,6 @@ pub fn show_table(figures: &[Figure]) -> String {
     text
 }
 
-/// What a caller pays who asks for the length first: the microseconds of both calls, of the one that does, and the
-/// quotient, for each program.
-pub fn asked_table(figures: &[Figure]) -> String {
-    let mut text = "| change | A, D | rows |".to_string();
-    for program in &PROGRAMS {
-        text.push_str(&format!(" {} us asked first | one call | times |", program.name));
-    }
-    text.push_str("\n|---|---|---|---|---|---|---|---|---|---|---|---|\n");
-    for asked in figures {
-        let held_against = |one: &&Figure| {
-            Some(one.job) == asked.job.one_call() && (one.a, one.d, one.rows) == (asked.a, asked.d, asked.rows)
-        };
-        let Some(one) = figures.iter().find(held_against) else { continue };
-        text.push_str(&format!("| {} | {}, {} | {} |", asked.job.kinds(), asked.a, asked.d, rows(asked)));
-        for (both, one) in asked.best.iter().zip(one.best) {
-            text.push_str(&format!(" {} | {} | {:.2} |", short(both * 1e6), short(one * 1e6), both / one));
-        }
-        text.push('\n');
-    }
-    text
-}
-
 /// How cost grows: nanoseconds a row in the shortest and the longest file of a layout, and the quotient.
 pub fn growth_table(figures: &[Figure]) -> String {
     let mut text = "| job | kind | A, D | rows |".to_string();
@@ -135,7 +112,7 @@ pub fn growth_table(figures: &[Figure]) -> String {
 pub fn shortfalls(figures: &[Figure]) -> String {
     let mut text = String::new();
     for figure in figures {
-        let Some(target) = target(figure) else { continue };
+        let target = target(figure);
         let ratio = figure.ratio(LIBRARY, TUNED);
         let place = format!(
             "{} {}, ({}, {}), {} rows",

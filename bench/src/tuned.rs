@@ -10,7 +10,7 @@ mod plain;
 mod text;
 mod write_config;
 
-pub use change::change;
+pub use change::{change, length};
 pub use config::config;
 pub use write_config::write_config;
 

@@ -58,20 +58,22 @@ pub enum Case {
     Check { layout: Layout, file: Vec<u8> },
     Row { layout: Layout, file: Vec<u8>, n: u32, places: usize },
     WriteRow { layout: Layout, n: u32, row: Vec<i64>, room: usize },
+    Length { layout: Layout, file: Vec<u8>, new_kind: u32 },
     Change { layout: Layout, file: Vec<u8>, new_kind: u32, room: usize },
     Reason { number: u32, room: usize },
 }
 
 /// The names of the calls, in the order of `Case::call`.
-pub const CALLS: [&str; 7] = ["config", "write_config", "check", "row", "write_row", "change", "reason"];
+pub const CALLS: [&str; 8] = ["config", "write_config", "check", "row", "write_row", "length", "change", "reason"];
 
 /// The refusals that each call can give, in the order of `CALLS`.
-pub const POSSIBLE: [&[u32]; 7] = [
+pub const POSSIBLE: [&[u32]; 8] = [
     &[1, 2, 3, 4, 5, 6, 7, 8, 9, 17],
     &[1, 2, 3, 4, 5, 6, 7, 8, 9, 10, 17],
     &[10, 11, 12, 13, 14],
     &[10, 11, 12, 13, 14, 15, 17],
     &[10, 15, 16, 17],
+    &[10, 11, 12, 13, 14, 16],
     &[10, 11, 12, 13, 14, 16, 17],
     &[10, 17],
 ];
@@ -85,16 +87,17 @@ impl Case {
             Case::Check { .. } => 2,
             Case::Row { .. } => 3,
             Case::WriteRow { .. } => 4,
-            Case::Change { .. } => 5,
-            Case::Reason { .. } => 6,
+            Case::Length { .. } => 5,
+            Case::Change { .. } => 6,
+            Case::Reason { .. } => 7,
         }
     }
 
     /// The layout, where the call takes one.
     pub fn layout(&self) -> Option<Layout> {
         match self {
-            Case::Check { layout, .. } | Case::Row { layout, .. } => Some(*layout),
-            Case::WriteRow { layout, .. } | Case::Change { layout, .. } => Some(*layout),
+            Case::Check { layout, .. } | Case::Row { layout, .. } | Case::WriteRow { layout, .. } => Some(*layout),
+            Case::Length { layout, .. } | Case::Change { layout, .. } => Some(*layout),
             Case::Config { .. } | Case::WriteConfig { .. } | Case::Reason { .. } => None,
         }
     }
@@ -103,7 +106,7 @@ impl Case {
     pub fn new_kind(&self) -> Option<u32> {
         match self {
             Case::WriteConfig { kind, .. } => Some(*kind),
-            Case::Change { new_kind, .. } => Some(*new_kind),
+            Case::Length { new_kind, .. } | Case::Change { new_kind, .. } => Some(*new_kind),
             _ => None,
         }
     }
@@ -124,7 +127,7 @@ impl Case {
             Case::Config { places, .. } | Case::Row { places, .. } => 8 * places,
             Case::WriteConfig { room, .. } | Case::WriteRow { room, .. } => *room,
             Case::Change { room, .. } | Case::Reason { room, .. } => *room,
-            Case::Check { .. } => 0,
+            Case::Check { .. } | Case::Length { .. } => 0,
         }
     }
 
@@ -133,7 +136,7 @@ impl Case {
         match self {
             Case::Config { .. } => 8 * CONFIG_PLACES,
             Case::Row { layout, .. } => 8 * layout.places(),
-            Case::Check { .. } => 0,
+            Case::Check { .. } | Case::Length { .. } => 0,
             Case::WriteConfig { .. } | Case::WriteRow { .. } => length as usize,
             Case::Change { .. } | Case::Reason { .. } => length as usize,
         }
@@ -156,6 +159,7 @@ impl Display for Case {
             Case::Check { layout, file } => write!(f, "{layout} {}", spelled(file)),
             Case::Row { layout, file, n, places } => write!(f, "{layout} {n} {places} {}", spelled(file)),
             Case::WriteRow { layout, n, row, room } => write!(f, "{layout} {n} {room} {}", listed(row)),
+            Case::Length { layout, file, new_kind } => write!(f, "{layout} {new_kind} {}", spelled(file)),
             Case::Change { layout, file, new_kind, room } => write!(f, "{layout} {new_kind} {room} {}", spelled(file)),
             Case::Reason { number, room } => write!(f, "{number} {room}"),
         }
@@ -178,6 +182,7 @@ pub fn parse(w: &mut Words) -> Option<Case> {
         "write_row" => {
             Case::WriteRow { layout: parse_layout(w)?, n: w.number()?, room: w.number()?, row: w.numbers()? }
         }
+        "length" => Case::Length { layout: parse_layout(w)?, new_kind: w.number()?, file: w.bytes()? },
         "change" => {
             Case::Change { layout: parse_layout(w)?, new_kind: w.number()?, room: w.number()?, file: w.bytes()? }
         }

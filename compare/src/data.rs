@@ -1,6 +1,6 @@
 //! Systematic cases of the data calls: each rule, each field, each boundary, each place where the file can end.
 
-use crate::calls::{change, needed, three_calls};
+use crate::calls::{change, four_calls, needed};
 use crate::case::{Case, Layout};
 use crate::damage::{spliced, Damage};
 use crate::files::{plain_file, row_bytes, text, widest_line, Recording, BEYOND, EDITION_KINDS, MARK, SAMPLES};
@@ -112,16 +112,15 @@ fn sizes(walk: &mut Walk) {
 fn size(walk: &mut Walk, layout: Layout) {
     let few = layout.a <= 96 && layout.d <= 256 && layout.rows <= 2 && layout.kind <= 2;
     let file = || if few { Recording::plain(layout).bytes() } else { Vec::new() };
-    three_calls(walk, layout, layout.a as usize + layout.d as usize, &file);
+    four_calls(walk, layout, layout.a as usize + layout.d as usize, &file);
     walk.case(|| Case::Row { layout, file: file(), n: 0, places: layout.places() });
     let row = vec![0; layout.places()];
     for (n, room) in [(1, 3000), (layout.rows, 3000), (0, 0)] {
         walk.case(|| Case::WriteRow { layout, n, row: row.clone(), room });
     }
     for new_kind in KINDS {
-        for room in [0, 6000] {
-            walk.case(|| Case::Change { layout, file: file(), new_kind, room });
-        }
+        walk.case(|| Case::Length { layout, file: file(), new_kind });
+        walk.case(|| Case::Change { layout, file: file(), new_kind, room: 6000 });
     }
 }
 
@@ -138,7 +137,7 @@ fn damaged(walk: &mut Walk, layout: Layout, file: &[u8]) {
 pub fn damaged_at(walk: &mut Walk, layout: Layout, file: &[u8], places: RangeInclusive<usize>, damages: &[Damage]) {
     for at in places {
         for (turn, damage) in damages.iter().enumerate() {
-            three_calls(walk, layout, at + turn, &|| damage.at(file, at));
+            four_calls(walk, layout, at + turn, &|| damage.at(file, at));
         }
     }
 }
@@ -151,15 +150,15 @@ fn other_layouts(walk: &mut Walk, recording: &Recording) {
     for a in near(layout.a) {
         for d in near(layout.d) {
             for rows in near(layout.rows) {
-                three_calls(walk, Layout { a, d, rows, ..layout }, rows as usize, &|| file.clone());
+                four_calls(walk, Layout { a, d, rows, ..layout }, rows as usize, &|| file.clone());
             }
         }
     }
     for kind in 0..3 {
-        three_calls(walk, layout.of_kind(kind), 0, &|| file.clone());
+        four_calls(walk, layout.of_kind(kind), 0, &|| file.clone());
     }
     for (turn, edition) in EDITIONS.into_iter().enumerate() {
-        three_calls(walk, layout.of_edition(edition), turn, &|| file.clone());
+        four_calls(walk, layout.of_edition(edition), turn, &|| file.clone());
     }
 }
 
@@ -174,6 +173,7 @@ fn rooms(walk: &mut Walk, recording: &Recording) {
         }
     }
     for new_kind in KINDS {
+        walk.case(|| Case::Length { layout, file: file.clone(), new_kind });
         for room in 0..7 {
             walk.case(|| {
                 let exact = needed(layout, &file, new_kind);
@@ -190,14 +190,14 @@ fn cuts(walk: &mut Walk, recording: &Recording) {
     let file = recording.bytes();
     for at in 0..file.len() {
         if at < 200 || at + 200 > file.len() {
-            three_calls(walk, layout, at, &|| file[..at].to_vec());
+            four_calls(walk, layout, at, &|| file[..at].to_vec());
         } else {
             walk.case(|| Case::Check { layout, file: file[..at].to_vec() });
         }
     }
     for more in [1, 2, 3, 8, 10, 12] {
-        three_calls(walk, layout, more, &|| [&file[..], &vec![b'0'; more]].concat());
-        three_calls(walk, layout, more, &|| [&file[..], &file[..more.min(file.len())]].concat());
+        four_calls(walk, layout, more, &|| [&file[..], &vec![b'0'; more]].concat());
+        four_calls(walk, layout, more, &|| [&file[..], &file[..more.min(file.len())]].concat());
     }
 }
 
@@ -353,7 +353,7 @@ fn pairs(walk: &mut Walk, layout: Layout) {
                 let half = one.len() / 2;
                 [&one[..half], &other[half.min(other.len())..]].concat()
             };
-            three_calls(walk, layout, turn, &file);
+            four_calls(walk, layout, turn, &file);
             walk.case(|| Case::Change { layout, file: file(), new_kind: 1, room: 0 });
             walk.case(|| Case::Row { layout, file: file(), n: 3, places: 0 });
             walk.case(|| Case::Row { layout, file: file(), n: 2, places: 0 });
@@ -388,7 +388,7 @@ fn text_fields(walk: &mut Walk, edition: u32) {
                     text(&lines, MARK)
                 };
                 for turn in [turn, turn + 1, turn + 3] {
-                    three_calls(walk, layout, turn, &file);
+                    four_calls(walk, layout, turn, &file);
                 }
             }
         }
@@ -402,7 +402,7 @@ fn endings(walk: &mut Walk) {
             for (turn, ending) in ENDINGS.iter().enumerate() {
                 let lines = Recording::plain(Layout::new(a, d, rows, 0)).lines();
                 for layout in [Layout::new(a, d, 2, 0), Layout::new(a, d, rows, 0)] {
-                    three_calls(walk, layout, turn, &|| text(&lines, ending));
+                    four_calls(walk, layout, turn, &|| text(&lines, ending));
                 }
             }
         }
@@ -419,7 +419,7 @@ fn long_rows(walk: &mut Walk) {
             for byte in [b' ', b'0', b','] {
                 for end in ends {
                     let fill = vec![byte; length + done - start.len()];
-                    three_calls(walk, Layout::new(1, 1, 2, 0), length, &|| [start, &fill, end].concat());
+                    four_calls(walk, Layout::new(1, 1, 2, 0), length, &|| [start, &fill, end].concat());
                 }
             }
         }
@@ -430,7 +430,7 @@ fn long_rows(walk: &mut Walk) {
 fn widest_rows(walk: &mut Walk, edition: u32) {
     let layout = Layout::of(96, 256, 1, (0, edition));
     let line = widest_line(1);
-    three_calls(walk, layout, 1, &|| text(std::slice::from_ref(&line), MARK));
+    four_calls(walk, layout, 1, &|| text(&[line.clone()], MARK));
     for field in [0, 1, 2, 50, 97, 98, 353] {
         for change in 0..4 {
             let file = || {
@@ -445,7 +445,7 @@ fn widest_rows(walk: &mut Walk, edition: u32) {
             };
             for ending in 0..3 {
                 let cut = |bytes: Vec<u8>| bytes[..bytes.len() - [0, 3, 4][ending]].to_vec();
-                three_calls(walk, layout, field, &|| cut(file()));
+                four_calls(walk, layout, field, &|| cut(file()));
             }
         }
     }

@@ -14,11 +14,8 @@ use crate::words::{self, MISSING};
 use second::Answer;
 use std::ops::Range;
 
-/// Bytes of a file above which a change is followed by no more than another room and a check, so that it does not take seconds.
+/// Bytes of a file above which a change is followed by no more than a length and a check, so that it does not take seconds.
 const LARGE: usize = 1 << 20;
-
-/// Room that is lent to a change that was refused with none.
-const SOME_ROOM: usize = 40;
 
 /// The places in which a configuration shows its first sample, its trigger, its pre-trigger time, its kind and its edition.
 const SHOWN_FIRST: Range<usize> = 12..19;
@@ -39,7 +36,7 @@ pub struct Expected {
     pub line: String,
 }
 
-/// An answer that is right, and whether it takes a row or a file with a missing sample: a "yes", or the 17 of a change.
+/// An answer that is right, and whether it is a "yes" to a row or a file with a missing sample.
 pub struct Judged {
     pub answer: Answer,
     pub missing: bool,
@@ -59,7 +56,8 @@ pub struct Judge {
 fn input_of(case: &Case) -> &[u8] {
     match case {
         Case::Config { cfg, .. } | Case::WriteConfig { cfg, .. } => cfg,
-        Case::Check { file, .. } | Case::Row { file, .. } | Case::Change { file, .. } => file,
+        Case::Check { file, .. } | Case::Row { file, .. } => file,
+        Case::Length { file, .. } | Case::Change { file, .. } => file,
         Case::WriteRow { row, .. } => bytes_of(row),
         Case::Reason { .. } => &[],
     }
@@ -77,13 +75,11 @@ fn first_difference(found: &[u8], wanted: &[u8]) -> String {
     format!("from byte {at} on: {} instead of {}", part(found), part(wanted))
 }
 
-/// What every answer keeps: a "yes" and the 17 of a change have no place, and that 17 tells more than its room; another "no" has no length, and its number is one that the call can give.
+/// What every answer keeps: a "yes" has no place, a "no" has no length, and its number is one that the call can give.
 fn well_formed(case: &Case, answer: Answer) -> Result<(), String> {
-    let no_place = answer.at == 0 && answer.field == 0;
-    let fine = match (answer.number, case) {
-        (0, _) => no_place,
-        (17, Case::Change { room, .. }) => no_place && answer.length as usize > *room,
-        (number, _) => answer.length == 0 && POSSIBLE[case.call()].contains(&number),
+    let fine = match answer.number {
+        0 => answer.at == 0 && answer.field == 0,
+        number => answer.length == 0 && POSSIBLE[case.call()].contains(&number),
     };
     if fine {
         return Ok(());
@@ -150,6 +146,7 @@ impl Judge {
             Case::Check { layout, file } => second::check(layout.numbers(), file),
             Case::Row { layout, file, n, .. } => second::row(layout.numbers(), file, *n, out.places_mut()),
             Case::WriteRow { layout, n, row, .. } => second::write_row(layout.numbers(), *n, row, out.bytes_mut()),
+            Case::Length { layout, file, new_kind } => second::length(layout.numbers(), file, *new_kind),
             Case::Change { layout, file, new_kind, .. } => {
                 second::change(layout.numbers(), file, *new_kind, out.bytes_mut())
             }
@@ -202,17 +199,14 @@ impl Judge {
         self.after.bytes()[..length].to_vec()
     }
 
-    /// Whether a case that was just answered so is about a row or a file with a missing sample, and the answer a "yes", or a change that nothing but room stops.
-    fn meets_missing(&mut self, case: &Case, answer: Answer) -> bool {
-        let room_alone = answer.number == 17 && matches!(case, Case::Change { .. });
-        if answer.number != 0 && !room_alone {
-            return false;
-        }
+    /// Whether a case that was just answered "yes" is about a row or a file with a missing sample.
+    fn meets_missing(&mut self, case: &Case) -> bool {
         let samples = |layout: &Layout| 1..1 + layout.a as usize;
         match case {
             Case::Row { layout, .. } => self.after.places_mut()[samples(layout)].contains(&MISSING),
             Case::WriteRow { layout, row, .. } => row[samples(layout)].contains(&MISSING),
-            Case::Check { layout, file } | Case::Change { layout, file, .. } => has_missing(*layout, file),
+            Case::Check { layout, file } => has_missing(*layout, file),
+            Case::Length { layout, file, .. } | Case::Change { layout, file, .. } => has_missing(*layout, file),
             Case::Config { .. } | Case::WriteConfig { .. } | Case::Reason { .. } => false,
         }
     }
@@ -224,7 +218,7 @@ impl Judge {
         if let Some(expected) = expected {
             self.hold(answer, expected)?;
         }
-        let missing = self.meets_missing(case, answer);
+        let missing = answer.number == 0 && self.meets_missing(case);
         match case {
             Case::Config { cfg, .. } if answer.number == 0 => {
                 dates_or_none(cfg, &self.after.places_mut()[..CONFIG_PLACES])?
@@ -279,48 +273,15 @@ impl Judge {
         Ok(self.after.places_mut().to_vec())
     }
 
-    /// A change into so much room.
-    fn change_into(&mut self, layout: Layout, file: &[u8], new_kind: u32, room: usize) -> Result<Answer, String> {
-        let case = Case::Change { layout, file: file.to_vec(), new_kind, room };
-        self.compare(&case).map_err(|what| format!("then {case}: {what}"))
-    }
-
-    /// A file that can be changed, changed as a caller does it who asks first: with no room, and then with as much as that told.
-    fn asked_and_changed(&mut self, layout: Layout, file: &[u8], new_kind: u32) -> Result<Vec<u8>, String> {
-        let told = self.change_into(layout, file, new_kind, 0)?;
-        let made = self.change_into(layout, file, new_kind, told.length as usize)?;
-        if told.number != 17 || made != (Answer { number: 0, ..told }) {
-            let [told, made] = [told, made].map(spelled);
-            return Err(format!("then {layout} to {new_kind}: with no room both {told}, with so much {made}"));
-        }
-        Ok(self.written(made.length as usize))
-    }
-
-    /// With no room the length is told that the yes has, and with as much as was told the change is made; another refusal stands with room and without.
-    fn follow_room(&mut self, old: Layout, file: &[u8], kind: u32, room: usize, found: Answer) -> Result<(), String> {
-        let told = Answer { number: 17, ..found };
-        let made = Answer { number: 0, ..found };
-        let expected: &[(usize, Answer)] = match (found.number, room) {
-            (0, _) => &[(0, told)],
-            (17, 0) => &[(found.length as usize, made)],
-            (17, _) => &[(0, told), (found.length as usize, made)],
-            (_, 0) => &[(SOME_ROOM, found)],
-            _ => &[(0, found)],
-        };
-        for &(other_room, wanted) in expected {
-            let answer = self.change_into(old, file, kind, other_room)?;
-            if answer != wanted {
-                let [found, answer] = [found, answer].map(spelled);
-                return Err(format!("with room {room} both {found}, with room {other_room} {answer}"));
-            }
-        }
-        Ok(())
-    }
-
-    /// A change answers by its room; a changed file passes its check, has the same rows, and changes back.
+    /// The length question answers as the change does but for 17; a changed file passes its check, has the same rows, and changes back.
     fn follow_change(&mut self, old: Layout, file: &[u8], kind: u32, room: usize, found: Answer) -> Result<(), String> {
         let changed = self.written(if found.number == 0 { found.length as usize } else { 0 });
-        self.follow_room(old, file, kind, room, found)?;
+        let length = self.compare(&Case::Length { layout: old, file: file.to_vec(), new_kind: kind })?;
+        let agree =
+            if found.number == 17 { length.number == 0 && length.length as usize > room } else { length == found };
+        if !agree {
+            return Err(format!("change {}, length {}", spelled(found), spelled(length)));
+        }
         if found.number != 0 {
             return Ok(());
         }
@@ -339,8 +300,15 @@ impl Judge {
 
     /// Changed back, a file of a binary kind is what it was, and a text its own plain form.
     fn follow_back(&mut self, old: Layout, file: &[u8], new: Layout, changed: Vec<u8>) -> Result<(), String> {
-        let was = if old.kind == 0 { self.asked_and_changed(old, file, 0)? } else { file.to_vec() };
-        if self.asked_and_changed(new, &changed, old.kind)? != was {
+        let mut was = file.to_vec();
+        if old.kind == 0 {
+            let room = self.yes(&Case::Length { layout: old, file: file.to_vec(), new_kind: 0 })?.length as usize;
+            self.yes(&Case::Change { layout: old, file: was, new_kind: 0, room })?;
+            was = self.written(room);
+        }
+        let room = was.len();
+        self.yes(&Case::Change { layout: new, file: changed, new_kind: old.kind, room })?;
+        if self.written(room) != was {
             return Err(String::from("changed back, the file is another"));
         }
         Ok(())

@@ -8,7 +8,7 @@ use crate::words::{Names, Words, MISSING};
 use second::Answer;
 
 /// The files, in an order that stays.
-const FILES: [(&str, &str); 8] = [
+const FILES: [(&str, &str); 7] = [
     ("vectors", include_str!("../kept/vectors")),
     ("configurations", include_str!("../kept/configurations")),
     ("rewritten", include_str!("../kept/rewritten")),
@@ -16,7 +16,6 @@ const FILES: [(&str, &str); 8] = [
     ("changes", include_str!("../kept/changes")),
     ("editions", include_str!("../kept/editions")),
     ("no_date", include_str!("../kept/no_date")),
-    ("one_call", include_str!("../kept/one_call")),
 ];
 
 /// What the recording of the rules shows.
@@ -87,14 +86,11 @@ fn writes(bytes: Vec<u8>, line: &str) -> Expected {
     Expected { bytes, ..expected }
 }
 
-/// A "no": number, line or row, field, and where it has one its length. Nothing if the next word is not `no`.
+/// A "no": number, line or row, field. Nothing if the next word is not `no`.
 fn no(w: &mut Words, line: &str) -> Option<Expected> {
     let mut expected = yes(line);
     w.is("no").then_some(())?;
     expected.answer = Answer { number: w.number()?, at: w.number()?, field: w.number()?, length: 0 };
-    if w.is("length") {
-        expected.answer.length = w.number()?;
-    }
     Some(expected)
 }
 
@@ -108,6 +104,7 @@ fn call(w: &mut Words, line: &str) -> Option<Known> {
     let mut expected = yes(line);
     match &case {
         Case::Check { .. } => (),
+        Case::Length { .. } => expected.answer.length = w.number()?,
         Case::Config { .. } | Case::Row { .. } => {
             let places = w.numbers().filter(|places| 8 * places.len() == case.reported(0))?;
             expected = shows(places, line);

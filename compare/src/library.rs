@@ -2,7 +2,7 @@
 
 use crate::case::Case;
 use second::Answer;
-use zagalume_raw::{zl_change, zl_check, zl_config, zl_reason, zl_row, zl_write_config, zl_write_row};
+use zagalume_raw::{zl_change, zl_check, zl_config, zl_length, zl_reason, zl_row, zl_write_config, zl_write_row};
 
 /// Asks the library.
 ///
@@ -18,6 +18,9 @@ pub unsafe fn ask(case: &Case, input: *const u8, output: *mut u8) -> Answer {
         }
         Case::WriteRow { layout: l, n, row, room } => {
             zl_write_row(l.a, l.d, l.rows, l.kind, l.edition, *n, input.cast(), row.len(), output, *room)
+        }
+        Case::Length { layout: l, file, new_kind } => {
+            zl_length(l.a, l.d, l.rows, l.kind, l.edition, input, file.len(), *new_kind)
         }
         Case::Change { layout: l, file, new_kind, room } => {
             zl_change(l.a, l.d, l.rows, l.kind, l.edition, input, file.len(), *new_kind, output, *room)

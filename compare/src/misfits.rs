@@ -1,6 +1,6 @@
 //! Systematic cases of changes of kind and of written rows: samples that do not fit the kind, in every place, and those that just do.
 
-use crate::calls::{change, every_call, needed, short_and_whole};
+use crate::calls::{change, every_call, length_and_change, needed};
 use crate::case::{Case, Layout};
 use crate::damage::Damage;
 use crate::files::{range, Recording, EDITION_KINDS};
@@ -46,7 +46,7 @@ fn one_misfit(walk: &mut Walk, recording: &Recording) {
                 if place == 1 || place == last {
                     every_call(walk, layout, &file);
                 } else {
-                    short_and_whole(walk, layout, 1, &file);
+                    length_and_change(walk, layout, 1, &file);
                 }
             }
         }
@@ -98,7 +98,7 @@ fn two_misfits(walk: &mut Walk, recording: &Recording) {
     for &(row, place) in &places {
         for &(other_row, other_place) in &places {
             let file = || recording.with(row, place, 32_768).with(other_row, other_place, -32_768).bytes();
-            short_and_whole(walk, recording.layout, 1, &file);
+            length_and_change(walk, recording.layout, 1, &file);
         }
     }
 }
@@ -109,7 +109,7 @@ fn misfit_and_fault(walk: &mut Walk, recording: &Recording) {
     let damages = [Damage::Cut, Damage::Insert(b'x'), Damage::Flip(0), Damage::Flip(7)];
     for at in file.len() / 3..=file.len() {
         for damage in damages {
-            short_and_whole(walk, recording.layout, 1, &|| damage.at(&file, at));
+            length_and_change(walk, recording.layout, 1, &|| damage.at(&file, at));
         }
     }
 }

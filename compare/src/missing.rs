@@ -1,6 +1,6 @@
 //! Systematic cases of missing samples: in every place of a row, in every kind and every change, and what is almost one.
 
-use crate::calls::{every_call, short_and_whole, three_calls};
+use crate::calls::{every_call, four_calls, length_and_change};
 use crate::case::{Case, Layout};
 use crate::damage::Damage;
 use crate::files::{row_bytes, text, Recording, EDITION_KINDS, MARK};
@@ -115,7 +115,7 @@ fn beside_misfits(walk: &mut Walk, recording: &Recording) {
         for &(other_row, other_place) in &places {
             for misfit in [32_768, -32_768, -2_147_483_647] {
                 let file = || recording.without(row, [place]).with(other_row, other_place, misfit).bytes();
-                short_and_whole(walk, recording.layout, 1, &file);
+                length_and_change(walk, recording.layout, 1, &file);
             }
         }
     }
@@ -127,7 +127,7 @@ fn before_a_fault(walk: &mut Walk, recording: &Recording) {
     let damages = [Damage::Cut, Damage::Delete, Damage::Insert(b','), Damage::Insert(b' '), Damage::Flip(7)];
     for at in file.len() / 3..=file.len() {
         for (turn, damage) in damages.iter().enumerate() {
-            three_calls(walk, recording.layout, at + turn, &|| damage.at(&file, at));
+            four_calls(walk, recording.layout, at + turn, &|| damage.at(&file, at));
         }
     }
 }
@@ -214,7 +214,7 @@ fn commas(walk: &mut Walk, edition: u32) {
             for statuses in [0, d as usize] {
                 for end in ["\r\n", "", "\r", "\n", " \r\n"] {
                     let file = || ["1,7", &",".repeat(count), &",1".repeat(statuses), end].concat().into_bytes();
-                    three_calls(walk, layout, count, &file);
+                    four_calls(walk, layout, count, &file);
                 }
             }
         }
@@ -236,7 +236,7 @@ fn fields_in_eights(walk: &mut Walk, edition: u32) {
                     lines[0][1 + place] = "7".repeat(digits);
                     text(&lines, MARK)
                 };
-                three_calls(walk, layout, place + width, &file);
+                four_calls(walk, layout, place + width, &file);
             }
         }
     }

@@ -17,10 +17,10 @@ pub fn case(seed: u64, index: u64) -> Case {
         6..=7 => check(dice),
         8..=9 => row(dice),
         10..=11 => write_row(dice),
-        12 => change(dice, about),
-        13..=14 => change(dice, near),
+        12 => length(dice),
+        13..=14 => change(dice),
         _ if dice.once_in(16) => Case::Reason { number: dice.below(20) as u32, room: dice.index(120) },
-        _ => change(dice, near),
+        _ => change(dice),
     }
 }
 
@@ -43,16 +43,6 @@ fn near(dice: &mut Dice, exact: usize) -> usize {
         3 => exact + dice.index(40),
         4 => dice.index(exact + 1),
         _ => exact,
-    }
-}
-
-/// None at all, a byte less than another length, just that, or more: each as often as the others.
-fn about(dice: &mut Dice, exact: usize) -> usize {
-    match dice.below(4) {
-        0 => 0,
-        1 => exact - 1,
-        2 => exact,
-        _ => exact + 1 + dice.index(40),
     }
 }
 
@@ -285,12 +275,16 @@ fn row(dice: &mut Dice) -> Case {
     Case::Row { layout, file, n: row_asked(dice, layout), places }
 }
 
-/// A change into room that goes by what it needs.
-fn change(dice: &mut Dice, room: fn(&mut Dice, usize) -> usize) -> Case {
+fn length(dice: &mut Dice) -> Case {
+    let (layout, file) = file(dice);
+    Case::Length { layout, file, new_kind: new_kind(dice) }
+}
+
+fn change(dice: &mut Dice) -> Case {
     let (layout, file) = file(dice);
     let new_kind = new_kind(dice);
     let exact = needed(layout, &file, new_kind);
-    let room = room(dice, exact);
+    let room = near(dice, exact);
     Case::Change { layout, file, new_kind, room }
 }
 

@@ -1,6 +1,6 @@
 //! Systematic cases of how a text row spells its numbers: spaces, signs, zeros and digits in every order and of every length.
 
-use crate::calls::three_calls;
+use crate::calls::four_calls;
 use crate::case::Layout;
 use crate::damage::Damage;
 use crate::files::{text, Recording};
@@ -61,7 +61,7 @@ pub fn walk(walk: &mut Walk) {
                 lines[place.row][place.field].clone_from(spelling);
                 text(&lines, b"")
             };
-            three_calls(walk, place.layout, turn, &file);
+            four_calls(walk, place.layout, turn, &file);
         }
     }
 }

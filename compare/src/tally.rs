@@ -7,7 +7,7 @@ use crate::walk::Family;
 use second::Answer;
 
 /// What is counted of a call: 0 for yes, 1 to 17 for no, and the sorts of these that follow.
-const COUNTED: usize = 40;
+const COUNTED: usize = 29;
 
 /// The refusal 1 of a configuration that would be too long as it is written: the one that was read is not.
 const LONG_RESULT: usize = 18;
@@ -42,43 +42,19 @@ const ZERO_TRIGGER: usize = 27;
 /// The refusal 6 of a date of zeros in part.
 const HALF_ZERO: usize = 28;
 
-/// The refusal 17 of a change whose file has a missing sample; its length is told.
-const SHORT_MISSING: usize = 29;
-
-/// The same of a text of 1999, where the number 99999 means it.
-const SHORT_NINES: usize = 30;
-
-/// The refusal 17 of any other change from ASCII to ASCII; those of the other pairs of kinds follow, by the old kind and then the new one.
-const SHORT: usize = 31;
-
-/// The last of them.
-const LAST_SHORT: usize = SHORT + 8;
-
 /// The calls that take a configuration, and so can meet a date of zeros.
 const WITH_DATES: [&str; 2] = ["config", "write_config"];
 
 /// The calls that take a layout, and so can meet a missing sample.
-const WITH_LAYOUT: [&str; 4] = ["check", "row", "write_row", "change"];
+const WITH_LAYOUT: [&str; 5] = ["check", "row", "write_row", "length", "change"];
 
 /// Counts of answers by call and number: the random cases apart from the others, and in each those of 1999.
-#[derive(Clone)]
+#[derive(Default, Clone)]
 pub struct Tally([[[[u64; COUNTED]; CALLS.len()]; 2]; 2]);
-
-/// Nothing counted yet.
-impl Default for Tally {
-    fn default() -> Tally {
-        Tally([[[[0; COUNTED]; CALLS.len()]; 2]; 2])
-    }
-}
 
 /// The random cases are counted apart.
 fn part(family: Family) -> usize {
     usize::from(family == Family::Random)
-}
-
-/// Whether one of two kinds is one that 1999 lacks.
-fn lacks_either((old_kind, new_kind): (usize, usize)) -> bool {
-    old_kind == 2 || new_kind == 2
 }
 
 /// Whether a kind of the case is one that its edition, that of 1999, lacks.
@@ -104,33 +80,12 @@ fn counted_by_dates(cfg: &[u8], answer: Answer) -> Option<usize> {
     }
 }
 
-/// What the 17 of a change from a kind to another is counted as.
-fn short(old_kind: u32, new_kind: u32) -> usize {
-    SHORT + 3 * old_kind as usize + new_kind as usize
-}
-
-/// The kinds of the change whose 17 is counted so.
-fn kinds_of(counted: usize) -> (usize, usize) {
-    ((counted - SHORT) / 3, (counted - SHORT) % 3)
-}
-
-/// What an answer that takes a row or a file with a missing sample is counted as.
-fn counted_missing(case: &Case, answer: Answer) -> usize {
-    let nines = case.is_of_1999() && case.layout().is_some_and(|layout| layout.kind == 0);
-    match (answer.number, nines) {
-        (0, false) => YES_MISSING,
-        (0, true) => YES_NINES,
-        (_, false) => SHORT_MISSING,
-        (_, true) => SHORT_NINES,
-    }
-}
-
 /// What an answer to a case is counted as.
 fn counted_as(case: &Case, answer: Answer, missing: bool) -> usize {
     let layout = case.layout();
     match (answer.number, case) {
-        _ if missing => counted_missing(case, answer),
-        (17, Case::Change { layout, new_kind, .. }) => short(layout.kind, *new_kind),
+        _ if missing && case.is_of_1999() && layout.is_some_and(|layout| layout.kind == 0) => YES_NINES,
+        _ if missing => YES_MISSING,
         (1, Case::WriteConfig { cfg, .. }) if cfg.len() <= MOST_BYTES => LONG_RESULT,
         (0 | 6, Case::Config { cfg, .. } | Case::WriteConfig { cfg, .. }) => {
             counted_by_dates(cfg, answer).unwrap_or(answer.number as usize)
@@ -150,10 +105,6 @@ fn can(of_1999: bool, call: usize, counted: usize) -> bool {
         LONG_RESULT => CALLS[call] == "write_config",
         YES_MISSING => WITH_LAYOUT.contains(&CALLS[call]),
         YES_NINES => of_1999 && WITH_LAYOUT.contains(&CALLS[call]),
-        SHORT_MISSING => CALLS[call] == "change",
-        SHORT_NINES => of_1999 && CALLS[call] == "change",
-        SHORT..=LAST_SHORT => CALLS[call] == "change" && !(of_1999 && lacks_either(kinds_of(counted))),
-        17 if CALLS[call] == "change" => false,
         LACKING => of_1999 && POSSIBLE[call].contains(&10),
         NO_EDITION => !of_1999 && WITH_LAYOUT.contains(&CALLS[call]),
         NO_FIRST..=HALF_ZERO => WITH_DATES.contains(&CALLS[call]),
@@ -176,18 +127,12 @@ fn name(counted: usize) -> String {
         ZERO_FIRST => String::from("no 6 zero first"),
         ZERO_TRIGGER => String::from("no 6 zero trigger"),
         HALF_ZERO => String::from("no 6 half zero"),
-        SHORT_MISSING => String::from("no 17 missing"),
-        SHORT_NINES => String::from("no 17 99999"),
-        SHORT..=LAST_SHORT => {
-            let (old_kind, new_kind) = kinds_of(counted);
-            format!("no 17 {old_kind} to {new_kind}")
-        }
         number => format!("no {number}"),
     }
 }
 
 impl Tally {
-    /// Counts an answer; whether it takes a row or a file with a missing sample is told beside it.
+    /// Counts an answer; whether it is a "yes" to a row or a file with a missing sample is told beside it.
     pub fn count(&mut self, family: Family, case: &Case, answer: Answer, missing: bool) {
         let edition = usize::from(case.is_of_1999());
         self.0[part(family)][edition][case.call()][counted_as(case, answer, missing)] += 1;

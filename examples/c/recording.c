@@ -93,29 +93,20 @@ int lend(size_t length, const char *what, struct bytes *room)
     return TROUBLE;
 }
 
-/* Gives back the room past a length, which is not 0; where the room can't be cut, it stays as it is. */
-static void cut(struct bytes *room, size_t length)
-{
-    uint8_t *shorter = realloc(room->start, length);
-    if (shorter != NULL)
-        room->start = shorter;
-    room->length = length;
-}
-
 int change(const struct recording *recording, uint32_t new_kind, struct bytes *changed)
 {
     struct bytes data = recording->data;
-    size_t room = zl_change_room(recording->layout, data.length, new_kind);
-    int status = lend(room == 0 ? 1 : room, "the new data file", changed); /* malloc(0) may give null, which says no memory */
+    zl_answer needed = zl_length_in(recording->layout, data.start, data.length, new_kind);
+    if (needed.number != ZL_YES)
+        return say_refusal("dat", needed);
+    int status = lend(needed.length, "the new data file", changed);
     if (status != DONE)
         return status;
     zl_answer done = zl_change_in(recording->layout, data.start, data.length, new_kind, changed->start, changed->length);
-    if (done.number != ZL_YES) {
-        free(changed->start);
-        return say_refusal("dat", done);
-    }
-    cut(changed, done.length);
-    return DONE;
+    if (done.number == ZL_YES)
+        return DONE;
+    free(changed->start);
+    return say_refusal("dat", done);
 }
 
 void print_layout(zl_layout layout)

@@ -42,8 +42,7 @@ void unload(struct recording *recording);
 /* Room for so many bytes, or TROUBLE after a line on standard error that says what it was for. */
 int lend(size_t length, const char *what, struct bytes *room);
 
-/* The data file in another kind, or the same: lends room that is always enough for a file of this length, changes the file in one
- * call, and gives back what is over. */
+/* The data file in another kind, or the same: asks how long it is, lends so much room and changes it. */
 int change(const struct recording *recording, uint32_t new_kind, struct bytes *changed);
 
 /* Prints the first line of a listing. */

@@ -50,19 +50,22 @@ fn end_mark(kind: Kind) -> &'static [u8] {
     }
 }
 
-/// No room for a new file of so many bytes: 17 with that length, which no other refusal has.
-fn short(length: usize) -> Answer {
-    Answer { length: length as u32, ..no(17, 0, 0) }
+/// The bytes needed for a change of kind: it answers or refuses as the change does, but never with 17.
+pub fn length(layout: LayoutNumbers, data: &[u8], new_kind: u32) -> Answer {
+    match layouts(layout, new_kind).and_then(|layouts| plan(layouts, data)) {
+        Ok(plan) => yes(plan.length as u32),
+        Err(answer) => answer,
+    }
 }
 
-/// Changes a data file to another kind, every test made before the first byte is written; 17 comes last, and tells the length that the new file takes.
+/// Changes a data file to another kind, every test made before the first byte is written; 17 comes last.
 pub fn change(layout: LayoutNumbers, data: &[u8], new_kind: u32, out: &mut [u8]) -> Answer {
     let plan = match layouts(layout, new_kind).and_then(|layouts| plan(layouts, data)) {
         Ok(plan) => plan,
         Err(answer) => return answer,
     };
     if out.len() < plan.length {
-        return short(plan.length);
+        return no(17, 0, 0);
     }
     let mut at = 0;
     let mut bytes = Vec::new();

@@ -11,12 +11,12 @@ mod numbers;
 mod tests;
 mod write_config;
 
-pub use change::change;
+pub use change::{change, length};
 pub use config::config;
 pub use data::{check, row, write_row, LayoutNumbers, NONE};
 pub use write_config::write_config;
 
-/// An answer: number 0 is "yes"; a "no" has its number and place, and length zero, but for the 17 of a change, which has the length of the new file.
+/// An answer: number 0 is "yes"; a "no" has its number and place, and length zero.
 #[derive(Debug, Clone, Copy, PartialEq, Eq)]
 pub struct Answer {
     pub number: u32,
@@ -25,7 +25,7 @@ pub struct Answer {
     pub length: u32,
 }
 
-/// A "no" returns its number and place, zeros for every count; the change puts a length to its 17.
+/// A "no" returns its number and place, zeros for every count.
 pub(crate) fn no(number: u32, at: u32, field: u32) -> Answer {
     Answer { number, at, field, length: 0 }
 }

@@ -12,17 +12,17 @@ struct Plan {
     already_plain: bool,
 }
 
-/// No room for a new file of so many bytes: 17 with that length, which no other refusal has.
-#[cold]
-fn short(length: usize) -> Answer {
-    Answer { length: length as u32, ..no(17, 0, 0) }
+/// The bytes needed: refuses as the change does, but never with 17.
+pub fn length(layout: LayoutNumbers, data: &[u8], new_kind: u32) -> Answer {
+    let length = both(layout, new_kind).and_then(|(old, new)| plan(&old, &new, data));
+    answer(length.map(|plan| plan.length))
 }
 
-/// Changes a data file to another kind: 10, the file, 16, 17, which tells the length of the new file.
+/// Changes a data file to another kind: 10, the file, 16, 17.
 pub fn change(layout: LayoutNumbers, data: &[u8], new_kind: u32, out: &mut [u8]) -> Answer {
     answer(both(layout, new_kind).and_then(|(old, new)| {
         let plan = plan(&old, &new, data)?;
-        let Some(out) = out.get_mut(..plan.length) else { return Err(short(plan.length)) };
+        let Some(out) = out.get_mut(..plan.length) else { return Err(no(17, 0, 0)) };
         write(&old, &new, &plan, data, out);
         Ok(plan.length)
     }))

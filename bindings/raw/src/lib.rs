@@ -2,8 +2,7 @@
 //! asks of its caller, answers and writes. The crate `zagalume` has them as safe functions.
 #![no_std]
 
-/// The answer of every call, `zl_answer` of the header: number 0 is "yes"; a "no" has its number and place, and length 0, but for the 17 of [`zl_change`], which has the
-/// length that the new file takes.
+/// The answer of every call, `zl_answer` of the header: number 0 is "yes"; a "no" has its number and place, and length 0.
 #[repr(C)]
 #[derive(Debug, Clone, Copy, PartialEq, Eq)]
 pub struct Answer {
@@ -24,6 +23,7 @@ extern "C" {
     pub fn zl_check(a: u32, d: u32, rows: u32, kind: u32, edition: u32, data: *const u8, data_length: usize) -> Answer;
     pub fn zl_row(a: u32, d: u32, rows: u32, kind: u32, edition: u32, data: *const u8, data_length: usize, n: u32, shown: *mut i64, shown_length: usize) -> Answer;
     pub fn zl_write_row(a: u32, d: u32, rows: u32, kind: u32, edition: u32, n: u32, row: *const i64, row_length: usize, out: *mut u8, out_length: usize) -> Answer;
+    pub fn zl_length(a: u32, d: u32, rows: u32, kind: u32, edition: u32, data: *const u8, data_length: usize, new_kind: u32) -> Answer;
     pub fn zl_change(a: u32, d: u32, rows: u32, kind: u32, edition: u32, data: *const u8, data_length: usize, new_kind: u32, out: *mut u8, out_length: usize) -> Answer;
     pub fn zl_reason(number: u32, out: *mut u8, out_length: usize) -> Answer;
 }

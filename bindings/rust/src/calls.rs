@@ -2,8 +2,10 @@
 //! A slice is a pointer that is valid, aligned and not null for its length; what a `&mut` lends overlaps nothing else; and nothing writes to what is lent until the
 //! call returns. That is all that the library asks of its caller, so every function here may be called with anything.
 
-use crate::{refused, Layout, Refusal, Unchanged};
-use zagalume_raw::{zl_change, zl_check, zl_config, zl_reason, zl_row, zl_write_config, zl_write_row, Answer};
+use crate::{Layout, Refusal};
+use zagalume_raw::{
+    zl_change, zl_check, zl_config, zl_length, zl_reason, zl_row, zl_write_config, zl_write_row, Answer,
+};
 
 /// A layout as the calls take it.
 fn numbers(l: Layout) -> (u32, u32, u32, u32, u32) {
@@ -46,15 +48,17 @@ pub fn write_row(l: Layout, n: u32, row: &[i64], out: &mut [u8]) -> Result<usize
     told(unsafe { zl_write_row(a, d, rows, kind, edition, n, row.as_ptr(), row.len(), out.as_mut_ptr(), out.len()) })
 }
 
-pub fn change(l: Layout, data: &[u8], new_kind: u32, out: &mut [u8]) -> Result<usize, Unchanged> {
+pub fn length(l: Layout, data: &[u8], new_kind: u32) -> Result<usize, Refusal> {
+    let (a, d, rows, kind, edition) = numbers(l);
+    // SAFETY: as in config.
+    told(unsafe { zl_length(a, d, rows, kind, edition, data.as_ptr(), data.len(), new_kind) })
+}
+
+pub fn change(l: Layout, data: &[u8], new_kind: u32, out: &mut [u8]) -> Result<usize, Refusal> {
     let (a, d, rows, kind, edition) = numbers(l);
     let (data, length, out, room) = (data.as_ptr(), data.len(), out.as_mut_ptr(), out.len());
     // SAFETY: as in config.
-    let answer = unsafe { zl_change(a, d, rows, kind, edition, data, length, new_kind, out, room) };
-    told(answer).map_err(|refusal| match refusal.number {
-        refused::NO_ROOM => Unchanged::Short(answer.length as usize),
-        _ => Unchanged::No(refusal),
-    })
+    told(unsafe { zl_change(a, d, rows, kind, edition, data, length, new_kind, out, room) })
 }
 
 pub fn reason(number: u32, out: &mut [u8]) -> Result<usize, Refusal> {

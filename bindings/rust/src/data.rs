@@ -244,9 +244,9 @@ pub fn check(layout: Layout, data: &[u8]) -> Result<(), Refusal> {
 /// Row n, counted from 1, of a data file that is fine as a whole.
 ///
 /// Each call checks the whole file, so that all rows one by one take time that grows with the square of their number: 28 s for 10,000 rows of ASCII, 32 samples and 32
-/// statuses each. For all rows, [`change()`](crate::change()) the file to [`Kind::Binary32`] once, which every sample fits, and read each row from its place, a sample of
-/// 80000000 hex as missing, as the example `all_rows` does: 0.05 s for the same file, printing included (processor time on x86-64). The edition of 1999 lacks that kind: there
-/// it is [`Kind::Ascii`] that every sample fits, and a sample of 99999 is missing.
+/// statuses each. For all rows, [`change`] the file to [`Kind::Binary32`] once, which every sample fits, and read each row from its place, a sample of 80000000 hex as
+/// missing, as the example `all_rows` does: 0.05 s for the same file, printing included (processor time on x86-64). The edition of 1999 lacks that kind: there it is
+/// [`Kind::Ascii`] that every sample fits, and a sample of 99999 is missing.
 ///
 /// Refused with 10; 15; then for the file, as [`check`].
 ///
@@ -302,4 +302,45 @@ pub fn write_row(layout: Layout, n: u32, row: &Row) -> Result<Vec<u8>, Refusal> 
 /// room is too short.
 pub fn write_row_into(layout: Layout, n: u32, row: &[i64], out: &mut [u8]) -> Result<usize, Refusal> {
     calls::write_row(layout, n, row, out)
+}
+
+/// How many bytes the data file has once it is changed to another kind. Nothing is allocated.
+///
+/// Refused as [`change`].
+///
+/// ```
+/// let cfg = include_bytes!("../../../examples/one.cfg");
+/// let dat = include_bytes!("../../../examples/one.dat");
+/// let layout = zagalume::read_config(cfg)?.layout();
+/// assert_eq!(zagalume::bytes_needed(layout, dat, zagalume::Kind::Binary)?, 24);
+/// # Ok::<(), zagalume::Refusal>(())
+/// ```
+pub fn bytes_needed(layout: Layout, data: &[u8], new_kind: Kind) -> Result<usize, Refusal> {
+    calls::length(layout, data, new_kind.number())
+}
+
+/// The data file in another kind of its edition, or in the same: a text is then in its plain form. A missing sample fits every kind and stays missing.
+///
+/// Refused with 10, also where the edition lacks the new kind; then for the file, as [`check`]; then with 16 at the first row and field whose sample is a number that does not fit the new kind.
+///
+/// ```
+/// let cfg = include_bytes!("../../../examples/one.cfg");
+/// let dat = include_bytes!("../../../examples/one.dat");
+/// let layout = zagalume::read_config(cfg)?.layout();
+/// let binary = zagalume::change(layout, dat, zagalume::Kind::Binary)?;
+/// assert_eq!(binary[..12], [1, 0, 0, 0, 0, 0, 0, 0, 0xFD, 0xFF, 0, 0]);
+/// # Ok::<(), zagalume::Refusal>(())
+/// ```
+pub fn change(layout: Layout, data: &[u8], new_kind: Kind) -> Result<Vec<u8>, Refusal> {
+    let mut out = vec![0; bytes_needed(layout, data, new_kind)?];
+    let length = change_into(layout, data, new_kind, &mut out)?;
+    out.truncate(length);
+    Ok(out)
+}
+
+/// As [`change`], into lent bytes, with nothing allocated: how many bytes were written.
+///
+/// Refused as [`change`]; last of all with 17, where the room is too short.
+pub fn change_into(layout: Layout, data: &[u8], new_kind: Kind, out: &mut [u8]) -> Result<usize, Refusal> {
+    calls::change(layout, data, new_kind.number(), out)
 }

@@ -2,7 +2,7 @@
 //! static library.
 //!
 //! A recording is a configuration and a data file. [`read_config`] gives the [`Layout`] that the other calls ask for; [`check`] tells whether a data file is fine,
-//! [`row`] shows a row, [`write_row`] writes one, [`change()`] turns a data file into another kind, and [`write_config`] gives the configuration that goes
+//! [`row`] shows a row, [`write_row`] writes one, [`bytes_needed`] and [`change`] turn a data file into another kind, and [`write_config`] gives the configuration that goes
 //! with it. A file that breaks a rule gives a [`Refusal`], with its number and its place; [`reason`] says a number in words. On a refusal nothing that was lent has
 //! changed.
 //!
@@ -51,21 +51,22 @@
 //!
 //! # Memory and threads
 //!
-//! The functions that end in `_into` write to what is lent and allocate nothing, as the library itself. [`change()`] allocates by the length of the file that it is given,
-//! as [`change_room`] says, and the rows of its layout never make it more. No call keeps anything between calls, so threads may call at the same time.
+//! The functions that end in `_into` write to what is lent and allocate nothing, as the library itself. No call keeps anything between calls, so threads may call at the same
+//! time.
 #![deny(missing_docs)]
 #![deny(unsafe_code)]
 
 #[allow(unsafe_code)]
 mod calls;
-mod change;
 mod config;
 mod data;
 mod refusal;
 
-pub use change::{change, change_into, change_room, Unchanged};
 pub use config::{read_config, write_config, write_config_into, Config, LastLines, Moment, PreTrigger};
-pub use data::{check, row, row_into, write_row, write_row_into, Edition, Kind, Layout, Row, Sample};
+pub use data::{
+    bytes_needed, change, change_into, check, row, row_into, write_row, write_row_into, Edition, Kind, Layout, Row,
+    Sample,
+};
 pub use refusal::{reason, reason_into, refused, Refusal};
 
 /// The limits, and the room that anything within them needs.

@@ -100,6 +100,6 @@ pub mod refused {
     pub const NO_SUCH_ROW: u32 = 15;
     /// A sample does not fit the kind that is written; at that row and field. A missing sample fits every kind.
     pub const MISFIT: u32 = 16;
-    /// What is lent to be written is too short. [`change_into`](crate::change_into) alone tells how long it must be, as [`Unchanged::Short`](crate::Unchanged::Short).
+    /// What is lent to be written is too short.
     pub const NO_ROOM: u32 = 17;
 }

@@ -1,7 +1,7 @@
 //! Two recordings in their three kinds, from the repository's examples, one of them with missing samples, one of the edition of 1999 in its two, and one without a date: read,
 //! checked, shown, written and changed.
 
-use zagalume::{Config, Edition, Kind, LastLines, Layout, Moment, PreTrigger, Row, Sample, Unchanged};
+use zagalume::{Config, Edition, Kind, LastLines, Layout, Moment, PreTrigger, Row, Sample};
 
 const ONE: [(&[u8], &[u8], Kind); 3] = [
     (include_bytes!("../../../examples/one.cfg"), include_bytes!("../../../examples/one.dat"), Kind::Ascii),
@@ -180,8 +180,7 @@ fn a_recording_of_1999_is_changed_within_its_edition() {
     for (cfg, dat, kind) in OLDER {
         for (new_cfg, new_dat, new_kind) in OLDER {
             assert_eq!(zagalume::write_config(cfg, new_kind).unwrap(), new_cfg);
-            let asked = zagalume::change_into(older_layout(kind), dat, new_kind, &mut []);
-            assert_eq!(asked, Err(Unchanged::Short(new_dat.len())));
+            assert_eq!(zagalume::bytes_needed(older_layout(kind), dat, new_kind), Ok(new_dat.len()));
             assert_eq!(zagalume::change(older_layout(kind), dat, new_kind).unwrap(), new_dat);
         }
     }
@@ -244,8 +243,7 @@ fn rows_in_a_row_are_the_file() {
 fn each_kind_is_changed_to_each() {
     for (_, dat, kind) in ONE {
         for (_, new_dat, new_kind) in ONE {
-            let asked = zagalume::change_into(layout(kind), dat, new_kind, &mut []);
-            assert_eq!(asked, Err(Unchanged::Short(new_dat.len())));
+            assert_eq!(zagalume::bytes_needed(layout(kind), dat, new_kind), Ok(new_dat.len()));
             assert_eq!(zagalume::change(layout(kind), dat, new_kind).unwrap(), new_dat);
         }
     }
@@ -273,8 +271,7 @@ fn a_missing_sample_stays_missing() {
     for (cfg, dat, kind) in MISSING {
         for (new_cfg, new_dat, new_kind) in MISSING {
             assert_eq!(zagalume::write_config(cfg, new_kind).unwrap(), new_cfg);
-            let asked = zagalume::change_into(missing_layout(kind), dat, new_kind, &mut []);
-            assert_eq!(asked, Err(Unchanged::Short(new_dat.len())));
+            assert_eq!(zagalume::bytes_needed(missing_layout(kind), dat, new_kind), Ok(new_dat.len()));
             assert_eq!(zagalume::change(missing_layout(kind), dat, new_kind).unwrap(), new_dat);
         }
     }

@@ -1,7 +1,7 @@
 //! Every refusal comes back with its number and place, and leaves what was lent as it was.
 
 use std::{collections::BTreeSet, fs, path::Path};
-use zagalume::{refused, Config, Edition, Kind, Layout, Refusal, Row, Sample, Unchanged};
+use zagalume::{refused, Config, Edition, Kind, Layout, Refusal, Row, Sample};
 
 fn no(number: u32, at: u32, field: u32) -> Refusal {
     Refusal { number, at, field }
@@ -90,7 +90,7 @@ fn layouts_outside_the_limits() {
             zagalume::write_row(bad, 0, &Row { time: 0, samples: vec![Sample::Missing], statuses: vec![] }),
             Err(refusal)
         );
-        assert_eq!(zagalume::change_into(bad, &[], Kind::Ascii, &mut []), Err(Unchanged::No(refusal)));
+        assert_eq!(zagalume::bytes_needed(bad, &[], Kind::Ascii), Err(refusal));
         assert_eq!(zagalume::change(bad, &[], Kind::Ascii), Err(refusal));
     }
 }
@@ -102,11 +102,11 @@ fn a_kind_that_the_edition_lacks() {
     assert_eq!(zagalume::check(lacking, &example("one-binary32.dat")), Err(refusal));
     assert_eq!(zagalume::row(lacking, &example("one-binary32.dat"), 1), Err(refusal));
     assert_eq!(zagalume::write_row_into(lacking, 1, &[0, 0, 0], &mut [0; 100]), Err(refusal));
-    assert_eq!(zagalume::change_into(lacking, &[], Kind::Binary, &mut []), Err(Unchanged::No(refusal)));
+    assert_eq!(zagalume::bytes_needed(lacking, &[], Kind::Binary), Err(refusal));
     assert_eq!(zagalume::change(lacking, &[], Kind::Binary), Err(refusal));
     let older = Layout { edition: Edition::Year1999, ..one(Kind::Ascii) };
-    assert_eq!(zagalume::change(older, b"bad", Kind::Binary32), Err(refusal));
-    assert_eq!(zagalume::change_into(older, b"bad", Kind::Binary32, &mut []), Err(Unchanged::No(refusal)));
+    assert_eq!(zagalume::bytes_needed(older, b"bad", Kind::Binary32), Err(refusal));
+    assert_eq!(zagalume::change_into(older, b"bad", Kind::Binary32, &mut []), Err(refusal));
     let cfg = example("one-1999.cfg");
     assert_eq!(zagalume::write_config(&cfg, Kind::Binary32), Err(refusal));
     assert_eq!(zagalume::write_config_into(&cfg, Kind::Binary32, &mut []), Err(refusal));
@@ -222,13 +222,9 @@ fn no_such_row_comes_before_the_file() {
 #[test]
 fn what_does_not_fit_comes_before_the_room() {
     let data = b"1,0,-3,0\r\n2,1000,32768,1\r\n";
-    let refusal = no(refused::MISFIT, 2, 3);
-    assert_eq!(zagalume::change(one(Kind::Ascii), data, Kind::Binary), Err(refusal));
-    for room in [0, 1, 23, 24] {
-        let mut out = [7; 24];
-        let changed = zagalume::change_into(one(Kind::Ascii), data, Kind::Binary, &mut out[..room]);
-        assert_eq!((changed, out), (Err(Unchanged::No(refusal)), [7; 24]));
-    }
+    let refusal = Err(no(refused::MISFIT, 2, 3));
+    assert_eq!(zagalume::bytes_needed(one(Kind::Ascii), data, Kind::Binary), refusal);
+    assert_eq!(zagalume::change_into(one(Kind::Ascii), data, Kind::Binary, &mut []), refusal);
     let written = |kind, number| {
         let row = Row { time: 0, samples: vec![Sample::Is(number)], statuses: vec![false] };
         zagalume::write_row(one(kind), 1, &row)
@@ -294,9 +290,7 @@ fn room_that_is_one_short() {
     let (mut places, mut bytes, mut cfg) = ([7; 2], [7; 23], [7; 167]);
     assert_eq!(zagalume::row_into(one(Kind::Ascii), &dat, 1, &mut places), refusal);
     assert_eq!(zagalume::write_row_into(one(Kind::Ascii), 1, &[0, -3, 0], &mut bytes[..9]), refusal);
-    let changed = zagalume::change_into(one(Kind::Ascii), &dat, Kind::Binary, &mut bytes);
-    assert_eq!(changed, Err(Unchanged::Short(24)));
-    assert_eq!(changed.map_err(Refusal::from), refusal);
+    assert_eq!(zagalume::change_into(one(Kind::Ascii), &dat, Kind::Binary, &mut bytes), refusal);
     assert_eq!(zagalume::write_config_into(&example("one.cfg"), Kind::Binary, &mut cfg), refusal);
     assert_eq!((places, bytes, cfg), ([7; 2], [7; 23], [7; 167]));
 }

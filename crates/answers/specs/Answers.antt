@@ -1,5 +1,5 @@
 -- What the exported calls share: the answer that a call gives by what it says, and what they take as numbers.
--- What a call that writes says is its answer (`told_shown`, `told_written`, `told_changed`), and what the lent buffer then holds (`over`).
+-- What a call that writes says is its answer (`told_shown`, `told_written`), and what the lent buffer then holds (`over`).
 use Rattle.std.specs.Prelude.{List, ℕ, leb, length}
 use Rattle.ground.specs.Said.{Said, says, refuses, ◌>>◌, must}
 use Rattle.model.specs.declared.Kind.{Kind}
@@ -10,10 +10,9 @@ use Rattle.model.specs.declared.EditionNo.{EditionNo}
 use Rattle.model.specs.declared.EditionNo.TheVariants as year
 use Rattle.model.specs.declared.Layout.{Layout}
 use Rattle.model.specs.declared.Refusal.{Refusal}
-use Rattle.model.specs.declared.Changed.{Changed}
 use Rattle.model.specs.Kinds.{kind_of}
 use Rattle.model.specs.Editions.{edition_of}
-use Rattle.model.specs.Refusals.{refused, change_refusal, change_length}
+use Rattle.model.specs.Refusals.{refused}
 use Rattle.answers.specs.declared.LayoutNo.{LayoutNo}
 use Rattle.answers.specs.declared.LayoutNo.TheVariants as layout
 use Rattle.answers.specs.declared.zl_answer.{zl_answer}
@@ -26,7 +25,7 @@ yes m = record { number = 0; at = 0; field = 0; length = m }
 abbrev pub no : Refusal → zl_answer
 no r = record { number = r.number; at = r.at; field = r.field; length = 0 }
 
--- the answer of a check, which has no length: what it says is 0
+-- the answer of a call that has a length
 abbrev pub told : Said Refusal ℕ → zl_answer
 told (says m) = yes m
 told (refuses r) = no r
@@ -35,16 +34,6 @@ told (refuses r) = no r
 abbrev pub told_written : Said Refusal (List ℕ) → zl_answer
 told_written (says new) = yes (length new)
 told_written (refuses r) = no r
-
--- the answer of a change: its number and place, and the length of the new file, written or not
-abbrev pub told_changed : Changed → zl_answer
-told_changed c =
-    record {
-      number = (change_refusal c).number;
-      at = (change_refusal c).at;
-      field = (change_refusal c).field;
-      length = change_length c;
-    }
 
 -- the answer of a call that shows places: it has no length
 abbrev pub told_shown : {A : Type 0} → Said Refusal (List A) → zl_answer

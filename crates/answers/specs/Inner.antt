@@ -1,4 +1,4 @@
--- NOTHING TO BELIEVE HERE: what the exported answer is of an answer of the calls below. The law `counted-written` (proofs/CountedLaws.antt) ties it to what those say.
+-- NOTHING TO BELIEVE HERE: what the exported answer is of an answer of the calls below. The laws `counted-written` and `counted-needed` (proofs/CountedLaws.antt) tie it to what those say.
 use Rattle.ground.specs.Said.{says, ◌>>◌}
 use Rattle.model.specs.declared.Answer.{Answer}
 use Rattle.model.specs.declared.Written.{Written}
@@ -13,7 +13,7 @@ plainly a = told (do
   answer_said a
   says 0)
 
--- of a call that writes so many bytes
+-- of a call that tells so many bytes
 abbrev pub counted : Written → zl_answer
 counted (Bytes m) = yes m
 counted (No r) = no r

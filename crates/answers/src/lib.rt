@@ -1,15 +1,15 @@
 // What every exported call answers, and how it is made of an answer of the calls below.
 // Each function gives exactly what the definition of its name says.
-ghost use Rattle.std.specs.Prelude.{◌≡◌, ◌<◌, ◌^◌};
+ghost use Rattle.std.specs.Prelude.{◌≡◌};
 ghost use Rattle.model.specs.declared.KindNo.TheVariants as number;
 ghost use Rattle.model.specs.Editions.{edition_of};
-ghost use Rattle.model.specs.Refusals.{FewBytes, change_length};
-ghost use Rattle.answers.specs.Answers.{yes, no, told_changed, layout_by, layout_in, layout_of};
+ghost use Rattle.model.specs.Refusals.{FewBytes};
+ghost use Rattle.answers.specs.Answers.{yes, no, layout_by, layout_in, layout_of};
 ghost use Rattle.answers.specs.Inner.{plainly, counted};
 
-use model::{Answer, Changed, Edition, EditionNo, Kind, KindNo, Layout, Refusal, Written};
+use model::{Answer, Edition, EditionNo, Kind, KindNo, Layout, Refusal, Written};
 
-// The refusal's number and place, zeros for yes; on yes the length in bytes where the call has one; where a change finds no room, the length that the new file takes; 0 elsewhere.
+// The refusal's number and place, zeros for yes; the length in bytes where the call has one, 0 elsewhere.
 #[repr(C)]
 #[derive(Drop)]
 pub struct zl_answer {
@@ -51,7 +51,7 @@ pub fn plainly(answer: Answer) -> zl_answer
     }
 }
 
-// How many bytes are written.
+// How many bytes are written or needed.
 pub fn counted(answer: Written) -> zl_answer
     requires { FewBytes answer }
     ensures { result ≡ counted answer }
@@ -59,26 +59,6 @@ pub fn counted(answer: Written) -> zl_answer
     match answer {
         Written::Bytes(size) => yes(size as u32),
         Written::No(refusal) => no(refusal),
-    }
-}
-
-// The answer of a change: where there is no room, the length too.
-pub fn told_changed(answer: Changed) -> zl_answer
-    requires { change_length answer < 2 ^ 32 }
-    ensures { result ≡ told_changed answer }
-{
-    match answer {
-        Changed::Bytes(size) => yes(size as u32),
-        Changed::Short(size) => {
-            let needed = size as u32;
-            zl_answer {
-                number: 17,
-                at: 0,
-                field: 0,
-                length: needed,
-            }
-        }
-        Changed::No(refusal) => no(refusal),
     }
 }
 

@@ -1,3 +1,3 @@
+pub mod TallyLaws
 pub mod LengthLaws
-pub mod FitLaws
 pub mod BinaryLaws

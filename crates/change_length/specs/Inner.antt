@@ -1,20 +1,24 @@
--- NOTHING TO BELIEVE HERE: what each private function of the code says. `decided` is what `new_file` says of a layout within the sizes and a kind that its edition has (law `new-decided`, proofs/LengthLaws.antt).
-use Rattle.std.specs.Prelude.{List, ℕ, zero, suc, ◌+◌, length}
-use Rattle.ground.specs.Said.{Said, says, ◌>>◌}
+-- NOTHING TO BELIEVE HERE: what each private function of the code says. `decided` is what `bytes_needed` says of a layout within the sizes (law `needed-decided`, proofs/LengthLaws.antt);
+-- the laws `decided-walk` (proofs/TallyLaws.antt) and `decided-binary` (proofs/BinaryLaws.antt) say that a walk with its tally, and a check in the bytes of a binary kind, come to just that.
+use Rattle.std.specs.Prelude.{Bool, true, false, not, List, ℕ, zero, suc, ◌+◌, ◌*◌, ◌≤◌, eqb, length}
+use Rattle.ground.specs.Choice.{if◌then◌else◌}
+use Rattle.ground.specs.Said.{Said, says, refuses, ◌>>◌, must}
 use Rattle.ground.specs.Tables.{cat}
 use Rattle.model.specs.declared.Kind.{Kind}
-use Rattle.model.specs.declared.Kind.TheVariants.{Ascii}
 use Rattle.model.specs.declared.Layout.{Layout}
 use Rattle.model.specs.declared.Row.{Row}
 use Rattle.model.specs.declared.Refusal.{Refusal}
-use Rattle.model.specs.declared.Answer.{Answer}
 use Rattle.model.specs.Layouts.{in_kind}
-use Rattle.model.specs.Refusals.{answer_said}
-use Rattle.row_bytes.specs.Rows.{bytes_of}
+use Rattle.model.specs.Refusals.{refused}
+use Rattle.binary_row.specs.Rows.{row_size}
+use Rattle.recode.specs.Inner.{fit_from}
+use Rattle.row_bytes.specs.Rows.{by_kind, bytes_of}
 use Rattle.row_bytes.specs.Inner.{length_of}
-use Rattle.data.specs.Files.{file_fine, row_at, end_mark}
-use Rattle.rows.specs.Inner.{walk_fine}
-use Rattle.change_length.specs.NewFile.{fit_row, fit_rows, changed}
+use Rattle.data.specs.Files.{file_fine, row_at, misfit_of, end_mark}
+use Rattle.change_length.specs.declared.Tally.{Tally}
+use Rattle.change_length.specs.declared.Weighed.{Weighed}
+use Rattle.change_length.specs.declared.Weighed.TheVariants as weighed
+use Rattle.change_length.specs.Needed.{fit_rows}
 
 -- how many bytes the first m rows take
 unfoldable pub rows_length : Layout → (ℕ → Row) → ℕ → ℕ
@@ -25,31 +29,64 @@ rows_length l r (suc m) = rows_length l r m + length_of l (m + 1) (r m)
 unfoldable pub file_length : Layout → (ℕ → Row) → ℕ
 file_length l r = rows_length l r l.rows + length (end_mark l)
 
+-- nothing looked at
+abbrev pub no_tally : Tally
+no_tally = record { at = 0; field = 0; length = 0 }
+
+-- a tally with row n more, of whose a samples the first misfit is bad, and the length with it
+unfoldable pub tallied : Tally → ℕ → ℕ → ℕ → ℕ → Tally
+tallied t n bad a length =
+    if not (eqb t.at 0) then record { at = t.at; field = t.field; length = length }
+    else if not (eqb bad a) then record { at = n; field = 3 + bad; length = length }
+    else record { at = 0; field = 0; length = length }
+
+-- what is known of the rows when row n was looked at too: the first misfit's row and field, and the length
+unfoldable pub weigh : Layout → ℕ → Row → Tally → Tally
+weigh l n r t = tallied t n (misfit_of l r) l.analogs (t.length + length_of l n r)
+
+-- what is known of the first m rows
+unfoldable pub tally_of : Layout → (ℕ → Row) → ℕ → Tally
+tally_of l r zero = no_tally
+tally_of l r (suc m) = weigh l (m + 1) (r m) (tally_of l r m)
+
+-- the tally of a file that is fine, or its refusal
+abbrev pub weighed_of : Said Refusal (Unit {0}) → Tally → Weighed
+weighed_of (says u) t = weighed.Whole t
+weighed_of (refuses r) t = weighed.No r
+
+-- what a tally says of the new file
+unfoldable pub settle : Layout → Tally → Said Refusal ℕ
+settle l t = do
+  must (eqb t.at 0) (refused 16 t.at t.field)
+  says (t.length + length (end_mark l))
+
+-- the same, or the file's refusal
+unfoldable pub settle_all : Layout → Weighed → Said Refusal ℕ
+settle_all l (weighed.Whole t) = settle l t
+settle_all l (weighed.No r) = refuses r
+
+-- a tally's length is no more than that of all rows
+abbrev pub Short : Weighed → Type 0
+Short (weighed.Whole t) = t.length ≤ 2048 * 1000000
+Short (weighed.No r) = Unit {0}
+
+-- what is needed of a sized layout
+unfoldable pub decided : Layout → List ℕ → Kind → Said Refusal ℕ
+decided l s k = do
+  file_fine l s
+  fit_rows (in_kind k l) (row_at l s) 0 l.rows
+  says (file_length (in_kind k l) (row_at l s))
+
 -- the bytes of the first m rows
 abbrev pub rows_bytes : Layout → (ℕ → Row) → ℕ → List ℕ
 rows_bytes l r m = cat (λ i. bytes_of l (i + 1) (r i)) m
 
--- the file is fine and its rows fit kind k
-unfoldable pub fitting : Layout → List ℕ → Kind → Said Refusal (Unit {0})
-fitting l s k = do
-  file_fine l s
-  fit_rows (in_kind k l) (row_at l s) 0 l.rows
+-- both kinds are binary
+abbrev pub both_binary : Kind → Kind → Bool
+both_binary k m = by_kind k false (by_kind m false true)
 
--- row n fits, where those before it do
-unfoldable pub fit_after : Answer → Layout → ℕ → Row → Said Refusal (Unit {0})
-fit_after before l n r = do
-  answer_said before
-  fit_row l n r
-
--- the new file in text, of a file that may be walked; the refusals are those of the walk
-unfoldable pub walked_text : Layout → List ℕ → Said Refusal (List ℕ)
-walked_text l s = do
-  walk_fine l s 1 l.rows
-  says (changed l s Ascii)
-
--- the new file, in a layout within the sizes and a kind that its edition has
-unfoldable pub decided : Layout → List ℕ → Kind → Said Refusal (List ℕ)
-decided l s k = do
-  file_fine l s
-  fit_rows (in_kind k l) (row_at l s) 0 l.rows
-  says (changed l s k)
+-- what is needed of an accepted file of a binary kind, in another
+unfoldable pub settle_binary : Layout → List ℕ → Kind → Said Refusal ℕ
+settle_binary l s k = do
+  fit_from l k s 0 l.rows
+  says (l.rows * row_size (in_kind k l))

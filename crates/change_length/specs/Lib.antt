@@ -1,2 +1,2 @@
-pub mod NewFile
+pub mod Needed
 pub mod Inner

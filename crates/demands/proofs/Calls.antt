@@ -2,17 +2,16 @@
 -- these are theorems on the definitions that its contracts cite.
 --     Ends, Lent              what a lent buffer holds at the end: a refusal leaves it as it was, a yes writes what it says and nothing past it
 --     refused-unchanged       so of every call that writes
---     zeros-beside            every refusal but the change's 17 has zeros for row and length beside it, and a configuration of zeros, no dates and no last lines
---     alike, no-such-row      what the check of a file refuses, showing a row of it and the change refuse alike; 15 comes before the file
---     change_says, change_answer     what zl_change says, and what it answers
---     seventeen-alone         zl_change answers 17 for want of room alone, and then with the length that the new file takes; beside any other refusal its length is 0
---     asked-then-made-call    with as much room as zl_change then tells, it writes so many bytes
+--     zeros-beside            a refusal has zeros for row and length beside it, and a configuration of zeros, no dates and no last lines
+--     alike, no-such-row      what the check of a file refuses, showing a row of it, the length question and the change refuse alike; 15 comes before the file
+--     as-the-question         the change refuses as the length question does, or else with 17
+--     never-17                the length question never says 17
 --     as-the-reader           the writer of a configuration refuses as its reader does, whatever the kind and the room
 --     all_placed              each call gives each number at the place that the table has for it (Placed.antt)
 --     shown-as-given          demand 2 of the exported pair: a row that zl_write_row takes is the one that zl_row shows with the places that it was given in
 -- Assumes nothing.
-use mathlib.Core.Path.{◌≡◌, refl, ap}
-use mathlib.Core.Logic.{◌↔◌}
+use mathlib.Core.Path.{◌≡◌, refl, sym, ap, ◌∙◌}
+use mathlib.Core.Logic.{◌⊎◌, inl, inr}
 use mathlib.Core.Bool.{Bool, true, false}
 use mathlib.Core.List.{List}
 use Prim.Native.Nat.{ℕ, ◌+◌, ◌-◌, ◌≤◌}
@@ -23,7 +22,7 @@ use lib.IntN.{ℤ}
 use lib.ListN.{length, take, drop}
 use Rattle.ground.specs.Choice.{if◌then◌else◌}
 use Rattle.ground.specs.Said.{Said, says, refuses, ◌>>=◌, ◌>>◌, must, over}
-use Rattle.ground.proofs.Cases.{clash}
+use Rattle.ground.proofs.Cases.{on_test, clash}
 use Rattle.ground.proofs.SaidLaws.{must-told, must-holds, bind-told, no_byte, only-told}
 use Rattle.ground.proofs.RefusalLaws.{RefusesOnly, only-must, only_then, only-bind, only_wider, only-given}
 use Rattle.model.specs.declared.Kind.{Kind}
@@ -36,7 +35,7 @@ use Rattle.model.specs.declared.Answer.TheVariants.{No}
 use Rattle.model.specs.Kinds.{kind_of}
 use Rattle.model.specs.Editions.{has_kind}
 use Rattle.model.specs.Layouts.{is_sized, in_kind}
-use Rattle.model.specs.Refusals.{refused, answer_of, answer_said, change_refusal}
+use Rattle.model.specs.Refusals.{refused, answer_of, answer_said}
 use Rattle.model.specs.Rows.{zero_row}
 use Rattle.model.proofs.AnswerLaws.{no-told}
 use Rattle.config_rules.specs.declared.Config.{Config}
@@ -45,9 +44,9 @@ use Rattle.config.specs.Config.{no_config, config_answer, configuration, read_co
 use Rattle.row_bytes.specs.Rows.{bytes_of}
 use Rattle.data.specs.Files.{file_fine, row_at, has_row, misfit_of, check_file, row_answer, show_row, write_said}
 use Rattle.data.proofs.Laws.{row_told, writable}
-use Rattle.change_length.specs.NewFile.{fit_rows, changed, new_file}
-use Rattle.change.specs.Change.{Unmade, no_room, no_file, made, change_said, changed_of}
-use Rattle.change.proofs.ChangeLaws.{made-short, changing}
+use Rattle.change.specs.Change.{change_said}
+use Rattle.change_length.specs.Needed.{fit_rows, changed, bytes_needed}
+use Rattle.change.proofs.ChangeLaws.{change-needs, changing}
 use Rattle.row_places.specs.Rows.{places_of, row_places, unfit, row_of_places}
 use Rattle.config_places.specs.Configs.{config_places}
 use Rattle.config_places.proofs.ConfigLaws.{config-places}
@@ -56,50 +55,49 @@ use Rattle.reasons.specs.Reasons.{reason_of, text_said, reason_said}
 use Rattle.answers.specs.declared.LayoutNo.{LayoutNo}
 use Rattle.answers.specs.declared.LayoutNo.TheVariants as layout
 use Rattle.answers.specs.declared.zl_answer.{zl_answer}
-use Rattle.answers.specs.Answers.{told, told_written, told_changed, told_shown, kind_said, layout_of, layout_said, placed}
+use Rattle.answers.specs.Answers.{told, told_written, told_shown, kind_said, layout_of, layout_said, placed}
 use Rattle.config.specs.Said.{config_said}
 use Rattle.calls_config.specs.Calls.{config_call}
 use Rattle.calls_data.specs.Calls.{check_call, row_said, row_call, row_asked, write_call}
 use Rattle.calls_data.specs.Inner.{row_in, write_in}
-use Rattle.calls_change.specs.Calls.{change_call}
+use Rattle.calls_change.specs.Calls.{length_call, change_call}
+use Rattle.calls_change.specs.Inner.{needed_in, change_in}
 use Rattle.rewrite.specs.Rewrite.{rewritten, result_said, rewrite_said}
 use Rattle.calls_rewrite.specs.Calls.{write_config_call}
 use Rattle.exact_rewrite.proofs.ExactLaws.{rewritten-exactly}
-use Rattle.demands.proofs.Data.{asked-then-made}
 use Rattle.demands.proofs.Placed.{Placed, PlacedTo, configuration-size, sizes-or-kind, no_row, sample-unfit, no-room, config-placed, file-placed, fits-placed}
 
--- a call that refuses with any R
-module _ {R A : Type 0} where
+module _ {A : Type 0} where
   -- what a buffer that held `old` holds at the end, by what was said
-  abbrev pub Ends : Said R (List A) → List A → List A → Type 0
+  abbrev pub Ends : Said Refusal (List A) → List A → List A → Type 0
   Ends (says new) old end = (take (length new) end ≡ new) × (drop (length new) end ≡ drop (length new) old) × (length end ≡ length old)
   Ends (refuses r) old end = end ≡ old
 
   -- a call by the room that it is lent: every contract has `over` for what the buffer holds at the end
-  abbrev pub Lent : (ℕ → Said R (List A)) → Type 0
+  abbrev pub Lent : (ℕ → Said Refusal (List A)) → Type 0
   Lent call = (old : List A) → Ends (call (length old)) old (over (call (length old)) old)
 
   -- what is said is no longer than the room
-  abbrev Within : (ℕ → Said R (List A)) → Type 0
+  abbrev Within : (ℕ → Said Refusal (List A)) → Type 0
   Within call = (room : ℕ) (new : List A) → call room ≡ says new → length new ≤ room
 
-  lent : (call : ℕ → Said R (List A)) → Within call → Lent call
+  lent : (call : ℕ → Said Refusal (List A)) → Within call → Lent call
   lent call within old = go (call (length old)) (within (length old))
     where
-      go : (x : Said R (List A)) → ((new : List A) → x ≡ says new → length new ≤ length old) → Ends x old (over x old)
-      go (says new) h = only-told {R = R} (says new) new old refl (h new refl)
+      go : (x : Said Refusal (List A)) → ((new : List A) → x ≡ says new → length new ≤ length old) → Ends x old (over x old)
+      go (says new) h = only-told {R = Refusal} (says new) new old refl (h new refl)
       go (refuses r) h = no_byte (refuses r) r old refl
 
   -- what follows from what was said
-  bind-within : {B : Type 0} (x : Said R B) (f : B → ℕ → Said R (List A)) → ((b : B) → Within (f b)) → Within (λ room. x >>= λ b. f b room)
+  bind-within : {B : Type 0} (x : Said Refusal B) (f : B → ℕ → Said Refusal (List A)) → ((b : B) → Within (f b)) → Within (λ room. x >>= λ b. f b room)
   bind-within x f h room new e = let t = bind-told x (λ b. f b room) new e in h t.0 room new t.2
 
--- so many places
-placed-within : {A : Type 0} (count : ℕ) (zs : List A) → length zs ≡ count → Within (placed count zs)
-placed-within count zs c room new e =
-    let t = must-told (leb count room) (refused 17 0 0) (says zs) new e in
-    let q : new ≡ zs = cc t.1 in
-    rw (q, c) (leb-true count room t.0)
+  -- so many places
+  placed-within : (count : ℕ) (zs : List A) → length zs ≡ count → Within (placed count zs)
+  placed-within count zs c room new e =
+      let t = must-told (leb count room) (refused 17 0 0) (says zs) new e in
+      let q : new ≡ zs = cc t.1 in
+      rw (q, c) (leb-true count room t.0)
 
 write-within : (l : Layout) (n : ℕ) (r : Row) → Within (write_said l n r)
 write-within l n r room new e = (writable l n r room new e).within
@@ -130,10 +128,10 @@ write-call-within a d rows kind edition n zs =
     bind-within (row_asked l n zs) (write_said l n) (write-within l n))
 
 change-call-within : (a d rows kind edition : ℕ) (s : List ℕ) (new : ℕ) → Within (change_call a d rows kind edition s new)
-unfolding change_call
+unfolding change_call change_in
 change-call-within a d rows kind edition s new =
-    bind-within (made (layout_said (layout_of a d rows kind edition))) (λ l room. made (kind_said (kind_of new)) >>= λ k. change_said l s k room) (λ l.
-    bind-within (made (kind_said (kind_of new))) (change_said l s) (change-within l s))
+    bind-within (layout_said (layout_of a d rows kind edition)) (λ l. change_in l s new) (λ l.
+    bind-within (kind_said (kind_of new)) (change_said l s) (change-within l s))
 
 rewrite-within : (s : List ℕ) (k : Kind) → Within (rewrite_said s k)
 rewrite-within s k room new e = ((rewritten-exactly s k room new).0 e).5
@@ -194,16 +192,15 @@ config-zeros s r e = rw (config-no (said_of (configuration (1, s))) r e)
 abbrev refusal : Refusal → zl_answer
 refusal r = record { number = r.number; at = r.at; field = r.field; length = 0 }
 
--- DEMAND 1. Zeros beside a "no", but for the change's 17
+-- DEMAND 1. Zeros beside a "no"
 pub zeros-beside :
     ((l : Layout) (s : List ℕ) (n : ℕ) (r : Refusal) → (show_row l s n).answer ≡ No r → (show_row l s n).row ≡ zero_row)
     × ((s : List ℕ) (r : Refusal) → (read_config s).answer ≡ No r → (read_config s).config ≡ no_config)
-    -- the exported calls: a check, bytes that are written, a file that is changed, places that are shown
+    -- the exported calls: a length, bytes that are written, places that are shown
     × ((x : Said Refusal ℕ) (r : Refusal) → x ≡ refuses r → told x ≡ refusal r)
     × ((x : Said Refusal (List ℕ)) (r : Refusal) → x ≡ refuses r → told_written x ≡ refusal r)
-    × ((x : Said Unmade (List ℕ)) (r : Refusal) → x ≡ refuses (no_file r) → told_changed (changed_of x) ≡ refusal r)
     × ((x : Said Refusal (List ℤ)) (r : Refusal) → x ≡ refuses r → told_shown x ≡ refusal r)
-zeros-beside = (show-zeros, config-zeros, (λ x r e. rw e), (λ x r e. rw e), (λ x r e. rw e), (λ x r e. rw e))
+zeros-beside = (show-zeros, config-zeros, (λ x r e. rw e), (λ x r e. rw e), (λ x r e. rw e))
 
 -- what is refused is refused whatever comes after it
 then-refuses : {B : Type 0} (x y : Said Refusal (Unit {0})) (z : Said Refusal B) (r : Refusal) → (x >> y) ≡ refuses r → (x >> (y >> z)) ≡ refuses r
@@ -211,16 +208,23 @@ then-refuses (says u) (says v) z r e = clash (cc)
 then-refuses (says u) (refuses q) z r e = let w : q ≡ r = cc e in ap refuses w
 then-refuses (refuses q) y z r e = let w : q ≡ r = cc e in ap refuses w
 
--- DEMAND 1. What the check of a file refuses, showing a row of it and the change to a kind of its edition refuse with the same number and place
+-- DEMAND 1. What the check of a file refuses, showing a row of it, the length question and the change to a kind of its edition refuse with the same number and place
 pub alike : (l : Layout) (s : List ℕ) (r : Refusal) → check_file l s ≡ No r
     → ((n : ℕ) → has_row l n ≡ true → show_row l s n ≡ record { answer = No r; row = zero_row })
-    × ((k : Kind) (room : ℕ) → has_kind l.edition k ≡ true → change_said l s k room ≡ refuses (no_file r))
-unfolding check_file show_row change_said new_file
+    × ((k : Kind) → has_kind l.edition k ≡ true → bytes_needed l s k ≡ refuses r)
+    × ((k : Kind) (room : ℕ) → has_kind l.edition k ≡ true → change_said l s k room ≡ refuses r)
+unfolding check_file show_row bytes_needed change_said
 alike l s r e =
     let x = must (is_sized l) (refused 10 0 0) in
     let c : (x >> file_fine l s) ≡ refuses r = no-told (x >> file_fine l s) r e in (
       (λ n h. rw (h, then-refuses x (file_fine l s) (says (row_at l s (n - 1))) r c)),
-      (λ k room has. rw (has, then-refuses x (file_fine l s) (fit_rows (in_kind k l) (row_at l s) 0 l.rows >> says (changed l s k)) r c)),
+      (λ k has. rw (has, then-refuses x (file_fine l s) (fit_rows (in_kind k l) (row_at l s) 0 l.rows >> says (length (changed l s k))) r c)),
+      (λ k room has.
+          rw (
+            has,
+            then-refuses x (file_fine l s)
+                (fit_rows (in_kind k l) (row_at l s) 0 l.rows >> (must (leb (length (changed l s k)) room) (refused 17 0 0) >> says (changed l s k))) r c,
+          )),
     )
 
 -- DEMAND 1. A row that there is not: 15, whatever the file
@@ -228,6 +232,18 @@ pub no-such-row : (l : Layout) (s : List ℕ) (n : ℕ) → is_sized l ≡ true 
     → show_row l s n ≡ record { answer = No (refused 15 0 0); row = zero_row }
 unfolding show_row
 no-such-row l s n ok none = rw (ok, none)
+
+-- DEMAND 1. The change refuses as the length question does, or else with 17
+pub as-the-question : (l : Layout) (s : List ℕ) (k : Kind) (room : ℕ) (r : Refusal)
+    → (bytes_needed l s k ≡ refuses r → change_said l s k room ≡ refuses r)
+    × (change_said l s k room ≡ refuses r → (bytes_needed l s k ≡ refuses r) ⊎ (r ≡ refused 17 0 0))
+as-the-question l s k room r =
+    let c = change-needs l s k room in
+    ((λ e. c ∙ rw e), (λ e. go (bytes_needed l s k) (sym c ∙ e)))
+  where
+    go : (x : Said Refusal ℕ) → (x >>= λ m. must (leb m room) (refused 17 0 0) >> says (changed l s k)) ≡ refuses r → (x ≡ refuses r) ⊎ (r ≡ refused 17 0 0)
+    go (says m) e = on_test (leb m room) (λ t. let q = rw t at e in clash (cc)) (λ t. let q = rw t at e in inr (cc))
+    go (refuses q) e = let w : q ≡ r = cc e in inl (ap refuses w)
 
 -- DEMAND 1. What the reading of a configuration refuses, the writer refuses with the same number and place, before it looks at the kind's number
 pub as-the-reader : (s : List ℕ) (r : Refusal) → (read_config s).answer ≡ No r
@@ -243,35 +259,27 @@ sized-only l = only-must (PlacedTo 16) (is_sized l) (refused 10 0 0) (λ e. (siz
 check-only : (l : Layout) (s : List ℕ) → RefusesOnly (PlacedTo 16) (must (is_sized l) (refused 10 0 0) >> file_fine l s)
 check-only l s = only_then (PlacedTo 16) (must (is_sized l) (refused 10 0 0)) (file_fine l s) (sized-only l) (λ e. file-placed l s)
 
-new-only : (l : Layout) (s : List ℕ) (k : Kind) → RefusesOnly (PlacedTo 16) (new_file l s k)
-unfolding new_file
-new-only l s k =
+needed-only : (l : Layout) (s : List ℕ) (k : Kind) → RefusesOnly (PlacedTo 16) (bytes_needed l s k)
+unfolding bytes_needed
+needed-only l s k =
     let rows = fit_rows (in_kind k l) (row_at l s) 0 l.rows in
-    let last = says (changed l s k) in
+    let last = says (length (changed l s k)) in
     let kind = must (has_kind l.edition k) (refused 10 0 0) in
     only_then (PlacedTo 16) (must (is_sized l) (refused 10 0 0)) (kind >> (file_fine l s >> (rows >> last))) (sized-only l) (λ e.
     only_then (PlacedTo 16) kind (file_fine l s >> (rows >> last)) (only-must (PlacedTo 16) (has_kind l.edition k) (refused 10 0 0) (λ h. (sizes-or-kind, lit≤ tt))) (λ h.
     only_then (PlacedTo 16) (file_fine l s) (rows >> last) (file-placed l s) (λ f.
     only_then (PlacedTo 16) rows last (fits-placed (in_kind k l) (row_at l s) 0 l.rows) (λ g. tt))))
 
--- a change: no room, or a refusal that is not 17
-abbrev PlacedUnmade : Unmade → Type 0
-PlacedUnmade (no_room m) = Unit {0}
-PlacedUnmade (no_file r) = PlacedTo 16 r
+-- DEMAND 1. The length question never says 17
+pub never-17 : (l : Layout) (s : List ℕ) (k : Kind) (r : Refusal) → bytes_needed l s k ≡ refuses r → r.number ≡ 17 → ⊥
+never-17 l s k r e n = omega (arith, (only-given (PlacedTo 16) (bytes_needed l s k) r e (needed-only l s k)).1)
 
-unmade-placed : (x : Unmade) → PlacedUnmade x → Placed (change_refusal (changed_of (refuses x)))
-unmade-placed (no_room m) p = no-room
-unmade-placed (no_file r) p = p.0
-
-made-only : {A : Type 0} (x : Said Refusal A) → RefusesOnly (PlacedTo 16) x → RefusesOnly PlacedUnmade (made x)
-made-only (says a) p = tt
-made-only (refuses r) p = p
-
-change-only : (l : Layout) (s : List ℕ) (k : Kind) (room : ℕ) → RefusesOnly PlacedUnmade (change_said l s k room)
-unfolding change_said
+change-only : (l : Layout) (s : List ℕ) (k : Kind) (room : ℕ) → RefusesOnly Placed (change_said l s k room)
 change-only l s k room =
-    only-bind PlacedUnmade (made (new_file l s k)) (λ b. must (leb (length b) room) (no_room (length b)) >> says b) (made-only (new_file l s k) (new-only l s k)) (λ b e.
-    only_then PlacedUnmade (must (leb (length b) room) (no_room (length b))) (says b) (only-must PlacedUnmade (leb (length b) room) (no_room (length b)) (λ t. tt)) (λ t. tt))
+    rw (change-needs l s k room)
+    (only-bind Placed (bytes_needed l s k) (λ m. must (leb m room) (refused 17 0 0) >> says (changed l s k))
+    (only_wider (PlacedTo 16) Placed (bytes_needed l s k) (λ r p. p.0) (needed-only l s k)) (λ m e.
+    only_then Placed (must (leb m room) (refused 17 0 0)) (says (changed l s k)) (only-must Placed (leb m room) (refused 17 0 0) (λ t. no-room)) (λ t. tt)))
 
 show-only : (l : Layout) (s : List ℕ) (n : ℕ) → RefusesOnly (PlacedTo 16) (row_said (show_row l s n))
 unfolding show_row
@@ -309,17 +317,13 @@ asked-only l n zs =
     only_then Placed (must (leb (places_of l) (length zs)) (refused 10 0 0)) _ (only-must Placed (leb (places_of l) (length zs)) (refused 10 0 0) (λ f. sizes-or-kind)) (λ f.
     unfit-only l n (2 + unfit l zs) (eqb (unfit l zs) (places_of l)) (says (row_of_places l zs)) (omega arith) tt))
 
-kind-only : (k : KindNo) → RefusesOnly (PlacedTo 16) (kind_said k)
+kind-only : (k : KindNo) → RefusesOnly Placed (kind_said k)
 kind-only (number.Is k) = tt
-kind-only number.None = (sizes-or-kind, lit≤ tt)
+kind-only number.None = sizes-or-kind
 
-layout-only : (l : LayoutNo) → RefusesOnly (PlacedTo 16) (layout_said l)
+layout-only : (l : LayoutNo) → RefusesOnly Placed (layout_said l)
 layout-only (layout.Is l) = tt
-layout-only layout.None = (sizes-or-kind, lit≤ tt)
-
--- where the number does not matter
-any-number : {A : Type 0} (x : Said Refusal A) → RefusesOnly (PlacedTo 16) x → RefusesOnly Placed x
-any-number x = only_wider (PlacedTo 16) Placed x (λ r p. p.0)
+layout-only layout.None = sizes-or-kind
 
 placed-only : {A : Type 0} (count : ℕ) (zs : List A) (room : ℕ) → RefusesOnly Placed (placed count zs room)
 placed-only count zs room =
@@ -364,11 +368,11 @@ config-call-only s room = only-bind Placed (config_said (read_config s)) (λ c. 
 
 -- of a kind by its number
 by_number : {A : Type 0} (kind : ℕ) (f : Kind → Said Refusal A) → ((k : Kind) → RefusesOnly Placed (f k)) → RefusesOnly Placed (kind_said (kind_of kind) >>= f)
-by_number kind f p = only-bind Placed (kind_said (kind_of kind)) f (any-number (kind_said (kind_of kind)) (kind-only (kind_of kind))) (λ k e. p k)
+by_number kind f p = only-bind Placed (kind_said (kind_of kind)) f (kind-only (kind_of kind)) (λ k e. p k)
 
 -- of a layout by its numbers
 by_layout : {A : Type 0} (l : LayoutNo) (f : Layout → Said Refusal A) → ((l : Layout) → RefusesOnly Placed (f l)) → RefusesOnly Placed (layout_said l >>= f)
-by_layout l f p = only-bind Placed (layout_said l) f (any-number (layout_said l) (layout-only l)) (λ k e. p k)
+by_layout l f p = only-bind Placed (layout_said l) f (layout-only l) (λ k e. p k)
 
 check-call-only : (a d rows kind edition : ℕ) (s : List ℕ) → RefusesOnly Placed (check_call a d rows kind edition s)
 unfolding check_call
@@ -381,7 +385,7 @@ unfolding row_call row_in
 row-call-only a d rows kind edition s n room =
     by_layout (layout_of a d rows kind edition) (λ l. row_in l s n room) (λ l.
     only-bind Placed (row_said (show_row l s n)) (λ r. placed (places_of l) (row_places l r) room)
-    (any-number (row_said (show_row l s n)) (show-only l s n))
+    (only_wider (PlacedTo 16) Placed (row_said (show_row l s n)) (λ r p. p.0) (show-only l s n))
     (λ r e. placed-only (places_of l) (row_places l r) room))
 
 write-call-only : (a d rows kind edition n : ℕ) (zs : List ℤ) (room : ℕ) → RefusesOnly Placed (write_call a d rows kind edition n zs room)
@@ -390,13 +394,18 @@ write-call-only a d rows kind edition n zs room =
     by_layout (layout_of a d rows kind edition) (λ l. write_in l n zs room) (λ l.
     only-bind Placed (row_asked l n zs) (λ r. write_said l n r room) (asked-only l n zs) (λ r e. write-only l n r room))
 
-change-call-only : (a d rows kind edition : ℕ) (s : List ℕ) (new room : ℕ) → RefusesOnly PlacedUnmade (change_call a d rows kind edition s new room)
-unfolding change_call
+length-call-only : (a d rows kind edition : ℕ) (s : List ℕ) (new : ℕ) → RefusesOnly Placed (length_call a d rows kind edition s new)
+unfolding length_call needed_in
+length-call-only a d rows kind edition s new =
+    by_layout (layout_of a d rows kind edition) (λ l. needed_in l s new) (λ l.
+    by_number new (bytes_needed l s) (λ m.
+    only_wider (PlacedTo 16) Placed (bytes_needed l s m) (λ r p. p.0) (needed-only l s m)))
+
+change-call-only : (a d rows kind edition : ℕ) (s : List ℕ) (new room : ℕ) → RefusesOnly Placed (change_call a d rows kind edition s new room)
+unfolding change_call change_in
 change-call-only a d rows kind edition s new room =
-    let l = layout_said (layout_of a d rows kind edition) in
-    let k = kind_said (kind_of new) in
-    only-bind PlacedUnmade (made l) (λ l. made k >>= λ k. change_said l s k room) (made-only l (layout-only (layout_of a d rows kind edition))) (λ l e.
-    only-bind PlacedUnmade (made k) (λ k. change_said l s k room) (made-only k (kind-only (kind_of new))) (λ k f. change-only l s k room))
+    by_layout (layout_of a d rows kind edition) (λ l. change_in l s new room) (λ l.
+    by_number new (λ m. change_said l s m room) (λ m. change-only l s m room))
 
 result-only : (new : List ℕ) (room : ℕ) → RefusesOnly Placed (result_said new room)
 unfolding result_said
@@ -423,78 +432,35 @@ pub all_placed :
     × ((l : Layout) (s : List ℕ) (r : Refusal) → check_file l s ≡ No r → Placed r)
     × ((l : Layout) (s : List ℕ) (n : ℕ) (r : Refusal) → (show_row l s n).answer ≡ No r → Placed r)
     × ((l : Layout) (n : ℕ) (row : Row) (room : ℕ) (r : Refusal) → write_said l n row room ≡ refuses r → Placed r)
-    × ((l : Layout) (s : List ℕ) (k : Kind) (room : ℕ) (x : Unmade) → change_said l s k room ≡ refuses x → Placed (change_refusal (changed_of (refuses x))))
+    × ((l : Layout) (s : List ℕ) (k : Kind) (r : Refusal) → bytes_needed l s k ≡ refuses r → Placed r)
+    × ((l : Layout) (s : List ℕ) (k : Kind) (room : ℕ) (r : Refusal) → change_said l s k room ≡ refuses r → Placed r)
     × ((s : List ℕ) (k : Kind) (room : ℕ) (r : Refusal) → rewrite_said s k room ≡ refuses r → Placed r)
     × ((n room : ℕ) (r : Refusal) → reason_said n room ≡ refuses r → Placed r)
-    -- zl_config, zl_check, zl_row, zl_write_row, zl_change, zl_write_config
+    -- zl_config, zl_check, zl_row, zl_write_row, zl_length, zl_change, zl_write_config
     × ((s : List ℕ) (room : ℕ) (r : Refusal) → config_call s room ≡ refuses r → Placed r)
     × ((a d rows kind edition : ℕ) (s : List ℕ) (r : Refusal) → check_call a d rows kind edition s ≡ refuses r → Placed r)
     × ((a d rows kind edition : ℕ) (s : List ℕ) (n room : ℕ) (r : Refusal) → row_call a d rows kind edition s n room ≡ refuses r → Placed r)
     × ((a d rows kind edition n : ℕ) (zs : List ℤ) (room : ℕ) (r : Refusal) → write_call a d rows kind edition n zs room ≡ refuses r → Placed r)
-    × ((a d rows kind edition : ℕ) (s : List ℕ) (new room : ℕ) (x : Unmade) → change_call a d rows kind edition s new room ≡ refuses x → Placed (change_refusal (changed_of (refuses x))))
+    × ((a d rows kind edition : ℕ) (s : List ℕ) (new : ℕ) (r : Refusal) → length_call a d rows kind edition s new ≡ refuses r → Placed r)
+    × ((a d rows kind edition : ℕ) (s : List ℕ) (new room : ℕ) (r : Refusal) → change_call a d rows kind edition s new room ≡ refuses r → Placed r)
     × ((s : List ℕ) (kind room : ℕ) (r : Refusal) → write_config_call s kind room ≡ refuses r → Placed r)
 all_placed = (
   (λ s r e. only-given Placed (config_said (read_config s)) r (rw e) (config-only s)),
   (λ l s r e. only-given Placed (answer_said (check_file l s)) r (rw e) (accepted-only l s)),
   (λ l s n r e. (only-given (PlacedTo 16) (row_said (show_row l s n)) r (rw e) (show-only l s n)).0),
   (λ l n row room r e. only-given Placed (write_said l n row room) r e (write-only l n row room)),
-  (λ l s k room x e. unmade-placed x (only-given PlacedUnmade (change_said l s k room) x e (change-only l s k room))),
+  (λ l s k r e. (only-given (PlacedTo 16) (bytes_needed l s k) r e (needed-only l s k)).0),
+  (λ l s k room r e. only-given Placed (change_said l s k room) r e (change-only l s k room)),
   (λ s k room r e. only-given Placed (rewrite_said s k room) r e (rewrite-only s k room)),
   (λ n room r e. only-given Placed (reason_said n room) r e (reason-only n room)),
   (λ s room r e. only-given Placed (config_call s room) r e (config-call-only s room)),
   (λ a d rows kind edition s r e. only-given Placed (check_call a d rows kind edition s) r e (check-call-only a d rows kind edition s)),
   (λ a d rows kind edition s n room r e. only-given Placed (row_call a d rows kind edition s n room) r e (row-call-only a d rows kind edition s n room)),
   (λ a d rows kind edition n zs room r e. only-given Placed (write_call a d rows kind edition n zs room) r e (write-call-only a d rows kind edition n zs room)),
-  (λ a d rows kind edition s new room x e.
-      unmade-placed x (only-given PlacedUnmade (change_call a d rows kind edition s new room) x e (change-call-only a d rows kind edition s new room))),
+  (λ a d rows kind edition s new r e. only-given Placed (length_call a d rows kind edition s new) r e (length-call-only a d rows kind edition s new)),
+  (λ a d rows kind edition s new room r e. only-given Placed (change_call a d rows kind edition s new room) r e (change-call-only a d rows kind edition s new room)),
   (λ s kind room r e. only-given Placed (write_config_call s kind room) r e (write-config-only s kind room)),
 )
-
--- a change answers 17 for want of room alone
-for-room : (x : Said Unmade (List ℕ)) → RefusesOnly PlacedUnmade x → (told_changed (changed_of x)).number ≡ 17 ↔ ((m : ℕ) × (x ≡ refuses (no_room m)))
-for-room (says new) p = ((λ e. absurd (omega arith)), (λ m. let q = m.1 in clash (cc)))
-for-room (refuses (no_room m)) p = ((λ e. (m, refl)), (λ n. refl))
-for-room (refuses (no_file r)) p = ((λ e. absurd (omega (arith, p.1))), (λ m. let q = m.1 in clash (cc)))
-
--- and tells a length beside yes and 17 alone
-no_length : (x : Said Unmade (List ℕ)) → ((told_changed (changed_of x)).number ≡ 0 → ⊥) → ((told_changed (changed_of x)).number ≡ 17 → ⊥) → (told_changed (changed_of x)).length ≡ 0
-no_length (says new) f g = absurd (f refl)
-no_length (refuses (no_room m)) f g = absurd (g refl)
-no_length (refuses (no_file r)) f g = refl
-
--- what a layout and a kind that are said come to
-call-said : (x : Said Refusal Layout) (y : Said Refusal Kind) (l : Layout) (k : Kind) (f : Layout → Kind → Said Unmade (List ℕ)) (t : List ℕ)
-    → x ≡ says l → y ≡ says k → f l k ≡ says t → (made x >>= λ l. made y >>= λ k. f l k) ≡ says t
-call-said x y l k f t p q e = rw (p, q) e
-
--- zl_change, in any room
-module _ (a d rows kind edition : ℕ) (s : List ℕ) (new room : ℕ) where
-  -- what it says, and its answer
-  abbrev pub change_says : Said Unmade (List ℕ)
-  change_says = change_call a d rows kind edition s new room
-
-  abbrev pub change_answer : zl_answer
-  change_answer = told_changed (changed_of change_says)
-
-  -- DEMAND 1. zl_change answers 17 exactly when there is no room for the new file, and then at 0, 0 with the length that it takes; where it answers neither yes nor 17, the length is 0
-  pub seventeen-alone : (change_answer.number ≡ 17 ↔ ((m : ℕ) × (change_says ≡ refuses (no_room m))))
-      × ((m : ℕ) → change_says ≡ refuses (no_room m) → change_answer ≡ record { number = 17; at = 0; field = 0; length = m })
-      × ((change_answer.number ≡ 0 → ⊥) → (change_answer.number ≡ 17 → ⊥) → change_answer.length ≡ 0)
-  seventeen-alone = (
-    for-room change_says (change-call-only a d rows kind edition s new room),
-    (λ m e. ap (λ (x : Said Unmade (List ℕ)). told_changed (changed_of x)) e),
-    no_length change_says,
-  )
-
-  -- DEMAND 3. Where zl_change finds no room, it writes the new file with as much as it tells, and so many bytes
-  pub asked-then-made-call : (m : ℕ) → change_call a d rows kind edition s new room ≡ refuses (no_room m)
-      → (t : List ℕ) × (change_call a d rows kind edition s new m ≡ says t) × (length t ≡ m)
-  unfolding change_call
-  asked-then-made-call m e =
-      let (l, p, f) = made-short (layout_said (layout_of a d rows kind edition)) (λ l. made (kind_said (kind_of new)) >>= λ k. change_said l s k room) m e in
-      let (k, q, g) = made-short (kind_said (kind_of new)) (λ k. change_said l s k room) m f in
-      let (t, done, size) = asked-then-made l s k room m g in
-      (t, call-said (layout_said (layout_of a d rows kind edition)) (kind_said (kind_of new)) l k (λ l k. change_said l s k m) t p q done, size)
 
 -- DEMAND 2, the exported pair. The places of a row that was handed in are those that it was handed in by; places past 1 + A + D are not read
 pub shown-as-given : (l : Layout) (n : ℕ) (zs : List ℤ) (r : Row) → row_asked l n zs ≡ says r → row_places l r ≡ take (places_of l) zs

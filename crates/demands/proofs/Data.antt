@@ -9,13 +9,10 @@
 --     three-endings          demand 2: rows that were written, one after the other, and any of the endings are the data file of these rows
 --     lacking                demand 3: a change to a kind that the edition lacks is refused with 10, whatever the file and the room
 --     refused-outside        demand 3: a change is refused with 16 at a sample exactly when that is the first that is there and outside the new kind's range
---     refused-short          demand 3: and for want of room exactly when every sample that is there is in range and there is no room for the new file, whose length is told
+--     refused-short          demand 3: and with 17 exactly when every sample that is there is in range and there is no room for the new file
 --     refused-only           demand 3: and with nothing else
---     decided-exactly        demand 3: each answer exactly: so many bytes, no room for so many, or 16 at the first sample outside
 --     change-done            demand 3: else the new file is the data file of the same rows, and changing back gives the first file, or the plain text with its rows
 --     plain-only             demand 3: of which there is one
---     short-unchanged        demand 1: where a change finds no room, no byte is changed
---     asked-then-made        demand 3: with as much room as it then tells, the change is made, and writes so many bytes
 -- Assumes nothing.
 use mathlib.Core.Path.{◌≡◌, sym, ap, subst, ◌∙◌}
 use mathlib.Core.Logic.{◌↔◌, ◌⊎◌, inl, inr, ⊎_elim}
@@ -25,10 +22,9 @@ use Prim.Native.Nat.{ℕ, ◌+◌, ◌-◌, ◌≤◌, ◌<◌}
 use native.Mathlib.Omega.{arith}
 use borrow.Author.Tests.{eq-eqb, le-leb}
 use lib.ListN.{length}
-use Rattle.ground.specs.Said.{says, refuses, over}
+use Rattle.ground.specs.Said.{says, refuses}
 use Rattle.ground.specs.Tables.{cat, every}
 use Rattle.ground.proofs.Cases.{clash}
-use Rattle.ground.proofs.SaidLaws.{no_byte}
 use Rattle.ground.proofs.Tables.{cat-ext}
 use Rattle.words.specs.Words.{is_byte}
 use Rattle.model.specs.declared.Kind.{Kind}
@@ -37,8 +33,6 @@ use Rattle.model.specs.declared.Layout.{Layout}
 use Rattle.model.specs.declared.Row.{Row}
 use Rattle.model.specs.declared.Refusal.{Refusal}
 use Rattle.model.specs.declared.Answer.TheVariants.{Yes}
-use Rattle.model.specs.declared.Changed.{Changed}
-use Rattle.model.specs.declared.Changed.TheVariants.{Bytes, Short, No}
 use Rattle.model.specs.Editions.{has_kind}
 use Rattle.model.specs.Layouts.{in_kind}
 use Rattle.model.specs.Refusals.{refused}
@@ -48,15 +42,14 @@ use Rattle.data.specs.Files.{has_row, misfit_of, check_file, row_answer, show_ro
 use Rattle.model.proofs.LayoutLaws.{sized-is}
 use Rattle.data.proofs.Laws.{row_told, writable}
 use Rattle.data.proofs.FileLaws.{Writes}
-use Rattle.change_length.specs.NewFile.{changed, new_file}
-use Rattle.change.specs.Change.{Unmade, no_room, no_file, change_said, changed_of}
-use Rattle.change.proofs.ChangeLaws.{changing, change-said, short-made}
+use Rattle.change.specs.Change.{change_said}
+use Rattle.change.proofs.ChangeLaws.{changing}
 use Rattle.paper.specs.Data.{TextFile, Allowed, DataFile}
 use Rattle.paper.specs.Written.{Fitting, Stands, EndingOf, PlainText, Restored, AllInRange, FirstOutside}
 pub use Rattle.exact_data.proofs.FileLaws.{data-exactly, row-shown, data-refused, row-refused, one-file}
 use Rattle.exact_data.proofs.StandLaws.{fitting-exactly, row-stands, rows-stand, bytes-stand}
 use Rattle.exact_data.proofs.PlainLaws.{plain-written}
-use Rattle.exact_data.proofs.ChangeLaws.{none_first, one-first, changed-rows, new-file, new-said, back-said, restored, told}
+use Rattle.exact_data.proofs.ChangeLaws.{none_first, one-first, new-file, new-said, back-said, restored, told}
 
 -- a row that was written can be written
 writes : (l : Layout) (n : ℕ) (r : Row) (room : ℕ) (b : List ℕ) → r.time ≤ latest_time → write_said l n r room ≡ says b → Writes l r
@@ -105,31 +98,37 @@ three-endings l r room b end allowed w h =
     rw (cat-ext b (λ i. bytes_of l (i + 1) (r i)) l.rows (λ i k. (writable l (i + 1) (r i) (room i) (b i) (w i k).1).bytes)) (t, a.0, a.1)
 
 -- DEMAND 3. A change to a kind that the edition lacks is refused with 10, whatever the file and the room
-pub lacking : (l : Layout) (s : List ℕ) (k : Kind) (room : ℕ) → Allowed l → has_kind l.edition k ≡ false → change_said l s k room ≡ refuses (no_file (refused 10 0 0))
-unfolding change_said new_file
+pub lacking : (l : Layout) (s : List ℕ) (k : Kind) (room : ℕ) → Allowed l → has_kind l.edition k ≡ false → change_said l s k room ≡ refuses (refused 10 0 0)
+unfolding change_said
 lacking l s k room allowed lacks = rw (sized-is l allowed.0 allowed.1, lacks)
 
 -- a data file, and a change to a kind k that the edition has, where there is room for so many bytes
 module _ (l : Layout) (r : ℕ → Row) (s : List ℕ) (k : Kind) (room : ℕ) (allowed : Allowed l) (bytes : every is_byte s ≡ true) (t : DataFile l r s)
     (has : has_kind l.edition k ≡ true) where
   -- one answer is no other
-  same_place : (i j p q : ℕ) → change_said l s k room ≡ refuses (no_file (refused 16 (i + 1) (3 + j))) → change_said l s k room ≡ refuses (no_file (refused 16 (p + 1) (3 + q))) → (i ≡ p) × (j ≡ q)
+  same_place : (i j p q : ℕ) → change_said l s k room ≡ refuses (refused 16 (i + 1) (3 + j)) → change_said l s k room ≡ refuses (refused 16 (p + 1) (3 + q)) → (i ≡ p) × (j ≡ q)
   same_place i j p q e f =
       let x : refused 16 (i + 1) (3 + j) ≡ refused 16 (p + 1) (3 + q) = cc in
       let y : i + 1 ≡ p + 1 = ap (λ (z : Refusal). z.at) x in
       let z : 3 + j ≡ 3 + q = ap (λ (z : Refusal). z.field) x in
       (omega arith, omega arith)
 
-  outside-to : (i j : ℕ) → change_said l s k room ≡ refuses (no_file (refused 16 (i + 1) (3 + j))) → FirstOutside l k r i j
+  not-both : {C : Type 0} (i j : ℕ) → change_said l s k room ≡ refuses (refused 16 (i + 1) (3 + j)) → change_said l s k room ≡ refuses (refused 17 0 0) → C
+  not-both i j e f =
+      let x : refused 16 (i + 1) (3 + j) ≡ refused 17 0 0 = cc in
+      let y : ◌≡◌ {A = ℕ} 16 17 = ap (λ (z : Refusal). z.number) x in
+      absurd (omega arith)
+
+  outside-to : (i j : ℕ) → change_said l s k room ≡ refuses (refused 16 (i + 1) (3 + j)) → FirstOutside l k r i j
   outside-to i j e =
       ⊎_elim
       (λ a. let q = a.2 in clash (cc))
       (⊎_elim
-      (λ a. let q = a.2 in clash (cc))
+      (λ a. not-both i j e a.2)
       (λ a. let y = same_place a.0 a.1 i j a.3 e in rw (← y.0, ← y.1) a.2))
       (told l r s allowed bytes t k room has)
 
-  outside-from : (i j : ℕ) → FirstOutside l k r i j → change_said l s k room ≡ refuses (no_file (refused 16 (i + 1) (3 + j)))
+  outside-from : (i j : ℕ) → FirstOutside l k r i j → change_said l s k room ≡ refuses (refused 16 (i + 1) (3 + j))
   outside-from i j f =
       ⊎_elim
       (λ a. absurd (none_first l k r i j a.0 f))
@@ -139,105 +138,50 @@ module _ (l : Layout) (r : ℕ → Row) (s : List ℕ) (k : Kind) (room : ℕ) (
       (told l r s allowed bytes t k room has)
 
   -- DEMAND 3. A change is refused with 16 at row i + 1 and field 3 + j exactly when sample j of row i is the first that is there and below the lowest or above the highest of the new kind
-  pub refused-outside : (i j : ℕ) → change_said l s k room ≡ refuses (no_file (refused 16 (i + 1) (3 + j))) ↔ FirstOutside l k r i j
+  pub refused-outside : (i j : ℕ) → change_said l s k room ≡ refuses (refused 16 (i + 1) (3 + j)) ↔ FirstOutside l k r i j
   refused-outside i j = (outside-to i j, outside-from i j)
 
   -- u is the new file: it is said wherever there is room for it
-  abbrev pub WrittenWithRoom : List ℕ → Type 0
-  WrittenWithRoom u = (more : ℕ) → length u ≤ more → change_said l s k more ≡ says u
+  abbrev pub NewFile : List ℕ → Type 0
+  NewFile u = (more : ℕ) → length u ≤ more → change_said l s k more ≡ says u
 
-  -- the new file finds no room, and its length is m
-  abbrev ShortOf : ℕ → Type 0
-  ShortOf m = AllInRange l k r × (u : List ℕ) × WrittenWithRoom u × (room < length u) × (m ≡ length u)
-
-  short-to : (m : ℕ) → change_said l s k room ≡ refuses (no_room m) → ShortOf m
-  short-to m e =
+  short-to : change_said l s k room ≡ refuses (refused 17 0 0) → AllInRange l k r × (u : List ℕ) × NewFile u × (room < length u)
+  short-to e =
       ⊎_elim
       (λ a. let q = a.2 in clash (cc))
       (⊎_elim
-      (λ a. let q = a.2 in (a.0, file_of (in_kind k l) r, λ more. new-said l r s allowed bytes t k a.0 more has, a.1, cc))
-      (λ a. let q = a.3 in clash (cc)))
+      (λ a. (a.0, file_of (in_kind k l) r, λ more. new-said l r s allowed bytes t k a.0 more has, a.1))
+      (λ a. not-both a.0 a.1 a.3 e))
       (told l r s allowed bytes t k room has)
 
-  short-from : (m : ℕ) → ShortOf m → change_said l s k room ≡ refuses (no_room m)
-  short-from m (all, u, f, h, z) =
+  short-from : AllInRange l k r → (u : List ℕ) → NewFile u → room < length u → change_said l s k room ≡ refuses (refused 17 0 0)
+  short-from all u f h =
+      ⊎_elim
+      (λ a.
       let new = file_of (in_kind k l) r in
       let more = length u + length new in
       let p = f more (omega arith) in
-      let q = new-said l r s allowed bytes t k all more has (omega arith) in
+      let q = new-said l r s allowed bytes t k a.0 more has (omega arith) in
       let w : u ≡ new = cc in
-      let v : length u ≡ length new = ap length w in
-      ⊎_elim
-      (λ a. absurd (omega (arith, a.1, v)))
+      absurd (omega (arith, a.1, ap length w)))
       (⊎_elim
-      (λ a. a.2 ∙ ap (λ (x : ℕ). refuses (no_room x)) (sym (z ∙ v)))
+      (λ a. a.2)
       (λ a. absurd (none_first l k r a.0 a.1 all a.2)))
       (told l r s allowed bytes t k room has)
 
-  -- DEMAND 3. And for want of room exactly when every sample that is there is in the new kind's range, and the new file does not find room; its length is told
-  pub refused-short : (m : ℕ) → change_said l s k room ≡ refuses (no_room m) ↔ (AllInRange l k r × (u : List ℕ) × WrittenWithRoom u × (room < length u) × (m ≡ length u))
-  refused-short m = (short-to m, short-from m)
+  -- DEMAND 3. And with 17 exactly when every sample that is there is in the new kind's range, and the new file does not find room
+  pub refused-short : change_said l s k room ≡ refuses (refused 17 0 0) ↔ (AllInRange l k r × (u : List ℕ) × NewFile u × (room < length u))
+  refused-short = (short-to, λ a. short-from a.0 a.1 a.2 a.3)
 
   -- DEMAND 3. And with no other refusal
-  pub refused-only : (x : Unmade) → change_said l s k room ≡ refuses x → ((i : ℕ) × (j : ℕ) × (x ≡ no_file (refused 16 (i + 1) (3 + j)))) ⊎ ((m : ℕ) × (x ≡ no_room m))
+  pub refused-only : (x : Refusal) → change_said l s k room ≡ refuses x → ((i : ℕ) × (j : ℕ) × (x ≡ refused 16 (i + 1) (3 + j))) ⊎ (x ≡ refused 17 0 0)
   refused-only x e =
       ⊎_elim
       (λ a. let q = a.2 in clash (cc))
       (⊎_elim
-      (λ a. let q = a.2 in inr (length (file_of (in_kind k l) r), cc))
+      (λ a. let q = a.2 in inr (cc))
       (λ a. let q = a.3 in inl (a.0, a.1, cc)))
       (told l r s allowed bytes t k room has)
-
-  -- the answer, and the new file's length
-  abbrev pub answer : Changed
-  answer = changed_of (change_said l s k room)
-
-  abbrev size : ℕ
-  size = length (changed l s k)
-
-  -- the three cases
-  answered : (AllInRange l k r × (size ≤ room) × (answer ≡ Bytes size))
-      ⊎ ((AllInRange l k r × (room < size) × (answer ≡ Short size))
-      ⊎ ((i : ℕ) × (j : ℕ) × FirstOutside l k r i j × (answer ≡ No (refused 16 (i + 1) (3 + j)))))
-  answered =
-      rw (changed-rows l r s allowed bytes t k)
-      (⊎_elim
-      (λ a. inl (a.0, a.1, ap changed_of a.2))
-      (⊎_elim
-      (λ a. inr (inl (a.0, a.1, ap changed_of a.2)))
-      (λ a. inr (inr (a.0, a.1, a.2, ap changed_of a.3))))
-      (told l r s allowed bytes t k room has))
-
-  -- DEMAND 3. Each answer exactly: so many bytes where every sample that is there is in range and the new file finds room, short of so many where it finds none, and no with 16 at the first sample outside
-  pub decided-exactly :
-      ((m : ℕ) → answer ≡ Bytes m ↔ (AllInRange l k r × (m ≡ length (changed l s k)) × (m ≤ room)))
-      × ((m : ℕ) → answer ≡ Short m ↔ (AllInRange l k r × (m ≡ length (changed l s k)) × (room < m)))
-      × ((x : Refusal) → answer ≡ No x ↔ ((i : ℕ) × (j : ℕ) × FirstOutside l k r i j × (x ≡ refused 16 (i + 1) (3 + j))))
-  decided-exactly =
-      ⊎_elim
-      (λ a.
-      let e = a.2 in (
-        (λ m. ((λ f. let q : m ≡ size = cc in (a.0, q, rw q a.1)), (λ f. e ∙ ap Bytes (sym f.1)))),
-        (λ m. ((λ f. clash (cc)), (λ f. absurd (omega (arith, a.1, f.1, f.2))))),
-        (λ x. ((λ f. clash (cc)), (λ f. absurd (none_first l k r f.0 f.1 a.0 f.2)))),
-      ))
-      (⊎_elim
-      (λ a.
-      let e = a.2 in (
-        (λ m. ((λ f. clash (cc)), (λ f. absurd (omega (arith, a.1, f.1, f.2))))),
-        (λ m. ((λ f. let q : m ≡ size = cc in (a.0, q, rw q a.1)), (λ f. e ∙ ap Short (sym f.1)))),
-        (λ x. ((λ f. clash (cc)), (λ f. absurd (none_first l k r f.0 f.1 a.0 f.2)))),
-      ))
-      (λ a.
-      let e = a.3 in (
-        (λ m. ((λ f. clash (cc)), (λ f. absurd (none_first l k r a.0 a.1 f.0 a.2)))),
-        (λ m. ((λ f. clash (cc)), (λ f. absurd (none_first l k r a.0 a.1 f.0 a.2)))),
-        (λ x. (
-          (λ f. (a.0, a.1, a.2, cc)),
-          (λ f. let y = one-first l k r a.0 a.1 f.0 f.1 a.2 f.2 in rw (f.3, ← y.0, ← y.1) e),
-        )),
-      )))
-      answered
 
 -- a data file, and a change that is made
 module _ (l : Layout) (r : ℕ → Row) (s : List ℕ) (k : Kind) (room : ℕ) (allowed : Allowed l) (bytes : every is_byte s ≡ true) (t : DataFile l r s) where
@@ -258,15 +202,3 @@ module _ (l : Layout) (r : ℕ → Row) (s : List ℕ) (k : Kind) (room : ℕ) (
 -- DEMAND 3. There is one plain text with given rows
 pub plain-only : (l : Layout) (r : ℕ → Row) (s u : List ℕ) → l.kind ≡ Ascii → TextFile l r s → PlainText l s → TextFile l r u → PlainText l u → s ≡ u
 plain-only l r s u text t p v q = plain-written l r s text t p ∙ sym (plain-written l r u text v q)
-
--- DEMAND 1. Where a change finds no room, no byte is changed
-pub short-unchanged : (l : Layout) (s : List ℕ) (k : Kind) (out : List ℕ) (m : ℕ) → change_said l s k (length out) ≡ refuses (no_room m)
-    → over (change_said l s k (length out)) out ≡ out
-short-unchanged l s k out m = no_byte (change_said l s k (length out)) (no_room m) out
-
--- DEMAND 3. Where a change finds no room, it is made with as much as it tells, and writes so many bytes
-pub asked-then-made : (l : Layout) (s : List ℕ) (k : Kind) (room m : ℕ) → change_said l s k room ≡ refuses (no_room m)
-    → (t : List ℕ) × (change_said l s k m ≡ says t) × (length t ≡ m)
-asked-then-made l s k room m e =
-    let (t, new, size, more) = short-made l s k room m e in
-    (t, change-said l s k m t new (omega arith), size)

@@ -4,7 +4,6 @@ pub mod Missing
 pub mod Rewritten
 pub mod Placed
 pub mod Calls
-pub mod Room
 pub mod Exported
 pub mod Absent
 pub mod NoDate

@@ -48,7 +48,7 @@ use Rattle.ascii_file.specs.Files as ascii_file
 use Rattle.ascii_file.specs.Files.{scan_row, found, take_row, is_ending, check_text}
 use Rattle.row_bytes.specs.Rows.{by_kind}
 use Rattle.data.specs.Files.{file_fine, misfit_of}
-use Rattle.change_length.specs.NewFile.{fit_row, fit_rows}
+use Rattle.change_length.specs.Needed.{fit_row, fit_rows}
 
 -- the numbers for "no", each at its place: line and field, or row and field; both count from 1
 pub data Placed : Refusal → Type 0 where

@@ -6,16 +6,13 @@
 --     writes_nothing, changes-nothing
 --     copies-unchanged                the change of kind copies the file
 --     row-1-and-the-rest-invented     what the change writes is told by row 1 alone
---     invented-length                 the length that is told, of a change that is made or one that finds no room, does not depend on the file
+--     invented-length                 the length that is told does not depend on the file
 --     writes-beside-a-no              a change writes rows until it meets one that does not fit
 --     writes-past-what-it-reports, clears-the-tail
 --     end-mark-with-a-row             the last row of a text is written with the end mark
 --     seventeen-before-sixteen        no room is told before a sample that does not fit
 --     later-row-first                 the last row that does not fit is told, and not the first
---     seventeen-without-its-length    17 is told with length 0
---     length-beside-sixteen           a length is told beside 16
---     exact-room-called-short         17 is told where there is room for just the new file
---     seventeen-told-as-yes           yes is told where there is no room
+--     length-says-17                  the length question refuses with 17 where the change does
 --     minus-lost                      the code -0h30 is read as +30 minutes
 --     first-and-trigger-exchanged
 --     shows-a-number-always           no sample is ever missing
@@ -46,13 +43,14 @@ use mathlib.Core.Bool.{true, false}
 use mathlib.Core.List.{List, [], ◌∷◌, ◌++◌}
 use Prim.Native.Nat.{ℕ, suc, ◌+◌, ◌-◌, ◌<◌, ◌≤◌}
 use native.Mathlib.Omega.{arith}
-use borrow.Author.Tests.{eqb-false}
-use lib.Dec.{lit≤, eqb}
+use borrow.Author.Tests.{eqb-false, le-leb}
+use lib.Dec.{lit≤, eqb, leb}
 use lib.IntN.{ℤ, pos, neg_ℤ}
 use lib.ListN.{length, get_or, take, drop, replicate}
 use Rattle.ground.specs.Quoted.{quoted}
-use Rattle.ground.specs.Said.{says, refuses, over}
+use Rattle.ground.specs.Said.{Said, says, refuses, ◌>>◌, must, over}
 use Rattle.ground.proofs.Cases.{clash}
+use Rattle.ground.proofs.SaidLaws.{must-told, bind-told}
 use Rattle.words.specs.Words.{word_of, word_bytes}
 use Rattle.words.specs.Signed.{signed_of, unsigned_of, is_lowest}
 use Rattle.text.specs.Lines.{scan_line}
@@ -105,16 +103,17 @@ use Rattle.ascii_file.specs.Files as ascii_file
 use Rattle.ascii_file.specs.Files.{take_row, is_ending, check_text, first_line, after_rows, text_row, mark}
 use Rattle.row_bytes.specs.Rows.{bytes_of}
 use Rattle.data.specs.Files.{file_fine, row_at, has_row, misfit_of, check_file, show_row, write_said, end_mark, file_of}
-use Rattle.change_length.specs.NewFile.{fit_row, fit_rows, changed, new_file}
-use Rattle.change.specs.Change.{Unmade, no_room, no_file, change_said, changed_of}
-use Rattle.change.proofs.ChangeLaws.{change-said, change-short, said-made}
+use Rattle.change.specs.Change.{change_said}
+use Rattle.change_length.specs.Needed.{fit_row, fit_rows, bytes_needed, changed}
+use Rattle.change.proofs.ChangeLaws.{change-needs}
+use Rattle.change_length.proofs.LengthLaws.{needed-length}
 use Rattle.row_places.specs.Rows.{place_sample, up_to, fits_sample, fits_place, unfit, row_of_places}
-use Rattle.answers.specs.declared.zl_answer.{zl_answer}
-use Rattle.answers.specs.Answers.{told_changed, layout_of}
+use Rattle.answers.specs.Answers.{layout_of}
 use Rattle.calls_data.specs.Calls.{row_asked, write_call}
 use Rattle.rewrite.specs.Rewrite.{rewritten, rewrite_said}
 use Rattle.exact_config.proofs.ExactLaws.{config-exactly}
 use Rattle.exact_rewrite.proofs.ExactLaws.{rewritten-exactly, written-accepted, never-long}
+use Rattle.demands.proofs.Calls.{never-17}
 use Rattle.demands.proofs.Recording.{recording_with, recording, recording1999, no_clock, recorded_at, last_with, recording_shows, no_clock_shows}
 use Rattle.demands.proofs.Recording.{recording-accepted, accepted-1999, recording-configuration, recording-code, no-clock-accepted, zero-date-refused, half-zero-refused}
 use Rattle.demands.proofs.Vectors.{layout, row, of-t1, t1, t2, t3, vectors}
@@ -184,9 +183,9 @@ computed :
     × ((check_file (layout 1 0 2 Ascii) both-unfit ≡ Yes)
     × (check_file (layout 1 0 2 Ascii) second-unfit ≡ Yes)
     × (fit_row (layout 1 0 2 Binary) 1 (row_at (layout 1 0 2 Ascii) second-unfit 0) ≡ says tt)
-    × (change_said (layout 1 0 2 Ascii) second-unfit Binary 20 ≡ refuses (no_file (refused 16 2 3)))
+    × (change_said (layout 1 0 2 Ascii) second-unfit Binary 20 ≡ refuses (refused 16 2 3))
     × (bytes_of (layout 1 0 2 Binary) 1 (row_at (layout 1 0 2 Ascii) second-unfit 0) ≡ 0x01 ∷ replicate 7 0 ++ 0x01 ∷ 0x00 ∷ [])
-    × (change_said (layout 1 0 2 Ascii) both-unfit Binary 0 ≡ refuses (no_file (refused 16 1 3)))
+    × (change_said (layout 1 0 2 Ascii) both-unfit Binary 0 ≡ refuses (refused 16 1 3))
     × (length (changed (layout 1 0 2 Ascii) both-unfit Binary) ≡ 20)
     × (fit_row (layout 1 0 2 Binary) 2 (row_at (layout 1 0 2 Ascii) both-unfit 1) ≡ refuses (refused 16 2 3)))
     -- a sample is missing
@@ -197,7 +196,7 @@ computed :
     × (check_file (layout 1 0 1 Ascii) (quoted "1,0,\r\n") ≡ Yes)
     × (check_file (layout 1 0 1 Ascii) (quoted "1,0, \r\n") ≡ No (refused 14 1 3))
     × (check_file (layout 1 0 1 Ascii) (quoted "1,0,-2147483648\r\n") ≡ No (refused 14 1 3))
-    × (change_said (layout 1 0 1 Ascii) (quoted "1,0,-32768\r\n") Binary 10 ≡ refuses (no_file (refused 16 1 3)))
+    × (change_said (layout 1 0 1 Ascii) (quoted "1,0,-32768\r\n") Binary 10 ≡ refuses (refused 16 1 3))
     × (write_call 1 0 1 1 2013 1 (pos 0 ∷ none ∷ []) 10 ≡ says no-sample)
     × (write_call 1 0 1 2 2013 1 (pos 0 ∷ missing ∷ []) 12 ≡ refuses (refused 16 1 3)))
     -- the two editions
@@ -208,13 +207,13 @@ computed :
     × (check_file (of-1999 1 0 1 Ascii) (quoted "1,0,\r\n") ≡ No (refused 14 1 3))
     × (change_said (of-1999 1 0 1 Binary) no-sample Ascii 14 ≡ says marked-text)
     × (change_said (layout 1 0 1 Binary) no-sample Ascii 14 ≡ says no-sample-text)
-    × (change_said (of-1999 1 0 1 Ascii) marked-text Binary32 14 ≡ refuses (no_file (refused 10 0 0)))
+    × (change_said (of-1999 1 0 1 Ascii) marked-text Binary32 14 ≡ refuses (refused 10 0 0))
     × (write_call 1 0 1 0 1999 1 (pos 0 ∷ none ∷ []) 11 ≡ says (take 11 marked-text))
     × (write_call 1 0 1 0 1999 1 (pos 0 ∷ pos 99999 ∷ []) 11 ≡ refuses (refused 16 1 3))
     × (change_said (of-1999 1 0 1 Ascii) marked-text Ascii 14 ≡ says marked-text))
 unfolding check_file show_row write_said is_sized has_kind has_row file_fine row_at check_text ascii_file.check_lines take_row is_ending scan_line first_line after_rows text_row field_count after_fields field_at
     check_line check_number check_fields field_fine ascii.row_of read_timestamp is_missing_field read_sample is_status time_in sample_in status_in length_in is_digit number_of read_count sign_length has_minus with_sign signed_number read_whole is_lowest is_missing holds fits marked is_mark
-    change_said new_file fit_rows misfit_of misfit row_size changed file_of end_mark bytes_of binary_of packed word_bytes word_of signed_of unsigned_of sample_of_word word_of_sample
+    change_said fit_rows misfit_of misfit row_size changed file_of end_mark bytes_of binary_of packed word_bytes word_of signed_of unsigned_of sample_of_word word_of_sample
     check_binary binary_file.check_rows binary_row binary.row_of binary.check_row decimal_in decimal plain sample_chars line_of text_of
     sample_of sample_at kind_of edition_of layout_of write_call row_asked unfit fits_place fits_sample is_none up_to place_sample row_of_places
 computed = (
@@ -234,13 +233,14 @@ yes-no a r e f = clash (cc)
 differ : (xs ys : List ℕ) (i : ℕ) → eqb (get_or xs i 0) (get_or ys i 0) ≡ false → xs ≡ ys → ⊥
 differ xs ys i d e = eqb-false (get_or xs i 0) (get_or ys i 0) d (ap (λ zs. get_or zs i 0) e)
 
--- the answer of zl_change, in a layout
-abbrev answer : Layout → List ℕ → Kind → ℕ → zl_answer
-answer l s k room = told_changed (changed_of (change_said l s k room))
+-- the refusal that was given; zeros for none
+abbrev given : Said Refusal (List ℕ) → Refusal
+given (says new) = refused 0 0 0
+given (refuses r) = r
 
--- what it tells, where this was said
-answer-told : (l : Layout) (s : List ℕ) (k : Kind) (room : ℕ) (x : Unmade) → change_said l s k room ≡ refuses x → answer l s k room ≡ told_changed (changed_of (refuses x))
-answer-told l s k room x e = ap (λ y. told_changed (changed_of y)) e
+-- a call gives one refusal
+one-refusal : (x : Said Refusal (List ℕ)) (p q : Refusal) → x ≡ refuses p → x ≡ refuses q → (p.number ≡ q.number) × (p.at ≡ q.at)
+one-refusal x p q e f = (sym (ap (λ y. (given y).number) e) ∙ ap (λ y. (given y).number) f, sym (ap (λ y. (given y).at) e) ∙ ap (λ y. (given y).at) f)
 
 -- what a buffer holds where this was said
 abbrev filled_by : List ℕ → List ℕ → List ℕ
@@ -309,11 +309,12 @@ changes-nothing f =
 
 -- more room does no harm
 more_room : (l : Layout) (s : List ℕ) (k : Kind) (m room : ℕ) (new : List ℕ) → change_said l s k m ≡ says new → length new ≤ room → change_said l s k room ≡ says new
-more_room l s k m room new e h = change-said l s k room new (said-made l s k m new e).0 h
-
--- too little is told with the length that the new file takes
-less-room : (l : Layout) (s : List ℕ) (k : Kind) (m room : ℕ) (new : List ℕ) → change_said l s k m ≡ says new → room < length new → change_said l s k room ≡ refuses (no_room (length new))
-less-room l s k m room new e h = change-short l s k room new (said-made l s k m new e).0 h
+more_room l s k m room new e h =
+    let b = bind-told (bytes_needed l s k) (λ j. must (leb j m) (refused 17 0 0) >> says (changed l s k)) new (sym (change-needs l s k m) ∙ e) in
+    let c = must-told (leb b.0 m) (refused 17 0 0) (says (changed l s k)) new b.2 in
+    let q : changed l s k ≡ new = cc c.1 in
+    let w : b.0 ≤ room = rw (needed-length l s k b.0 b.1, q) h in
+    change-needs l s k room ∙ rw (b.1, le-leb b.0 room w, q)
 
 pub copies-unchanged : ((l : Layout) (s : List ℕ) (k : Kind) (out new : List ℕ) → change_said l s k (length out) ≡ says new → length s ≤ length out
     → over (change_said l s k (length out)) out ≡ s ++ drop (length s) out)
@@ -330,17 +331,9 @@ pub row-1-and-the-rest-invented : ((l : Layout) (s t : List ℕ) (k : Kind) (roo
 row-1-and-the-rest-invented f =
     differ t2 other-changed 20 refl (f (of-t1 Ascii) t1 other Binary 24 t2 other-changed computed.2.0 vectors.1.1 computed.2.1)
 
-pub invented-length : (told : Layout → Kind → ℕ → ℕ)
-    → (((l : Layout) (s : List ℕ) (k : Kind) (room : ℕ) (new : List ℕ) → change_said l s k room ≡ says new → told l k room ≡ length new) → ⊥)
-    × (((l : Layout) (s : List ℕ) (k : Kind) (room m : ℕ) → change_said l s k room ≡ refuses (no_room m) → told l k room ≡ m) → ⊥)
-invented-length told =
-    let l = of-t1 Binary in (
-      (λ f. eqb-false 27 21 refl (sym (f l t2 Ascii 27 t1 computed.2.2) ∙ f l zeros Ascii 27 zeros-text computed.2.3)),
-      (λ f.
-          let a = f l t2 Ascii 0 27 (less-room l t2 Ascii 27 0 t1 computed.2.2 (lit≤ tt)) in
-          let b = f l zeros Ascii 0 21 (less-room l zeros Ascii 27 0 zeros-text computed.2.3 (lit≤ tt)) in
-          eqb-false 27 21 refl (sym a ∙ b)),
-    )
+pub invented-length : (told : Layout → Kind → ℕ → ℕ) → ((l : Layout) (s : List ℕ) (k : Kind) (room : ℕ) (new : List ℕ) → change_said l s k room ≡ says new → told l k room ≡ length new) → ⊥
+invented-length told f =
+    eqb-false 27 21 refl (sym (f (of-t1 Binary) t2 Ascii 27 t1 computed.2.2) ∙ f (of-t1 Binary) zeros Ascii 27 zeros-text computed.2.3)
 
 -- a row that fits is written before the next is looked at
 pub writes-beside-a-no : ((l : Layout) (s : List ℕ) (k : Kind) (out : List ℕ) → check_file l s ≡ Yes → fit_row (in_kind k l) 1 (row_at l s 0) ≡ says tt
@@ -380,43 +373,24 @@ end-mark-with-a-row f =
     differ (drop 11 new) mark 0 refl e
 
 pub seventeen-before-sixteen : ((l : Layout) (s : List ℕ) (k : Kind) (room : ℕ) → check_file l s ≡ Yes → room < length (changed l s k)
-    → answer (l s k room).number ≡ 17)
+    → change_said l s k room ≡ refuses (refused 17 0 0))
     → ⊥
 seventeen-before-sixteen f =
     let l = layout 1 0 2 Ascii in
     let h : 0 < length (changed l both-unfit Binary) = rw computed.3.6 (lit≤ tt) in
-    let e = answer-told l both-unfit Binary 0 (no_file (refused 16 1 3)) computed.3.5 in
-    eqb-false 16 17 refl (sym (ap (λ a. a.number) e) ∙ f l both-unfit Binary 0 computed.3.0 h)
+    eqb-false 16 17 refl (one-refusal (change_said l both-unfit Binary 0) (refused 16 1 3) (refused 17 0 0) computed.3.5 (f l both-unfit Binary 0 computed.3.0 h)).0
 
 pub later-row-first : ((l : Layout) (s : List ℕ) (k : Kind) (room : ℕ) (r : Refusal) → check_file l s ≡ Yes
-    → fit_row (in_kind k l) l.rows (row_at l s (l.rows - 1)) ≡ refuses r → change_said l s k room ≡ refuses (no_file r))
+    → fit_row (in_kind k l) l.rows (row_at l s (l.rows - 1)) ≡ refuses r → change_said l s k room ≡ refuses r)
     → ⊥
 later-row-first f =
     let l = layout 1 0 2 Ascii in
-    let e = answer-told l both-unfit Binary 0 (no_file (refused 16 1 3)) computed.3.5 in
-    let g = answer-told l both-unfit Binary 0 (no_file (refused 16 2 3)) (f l both-unfit Binary 0 (refused 16 2 3) computed.3.0 computed.3.7) in
-    eqb-false 1 2 refl (sym (ap (λ a. a.at) e) ∙ ap (λ a. a.at) g)
+    eqb-false 1 2 refl (one-refusal (change_said l both-unfit Binary 0) (refused 16 1 3) (refused 16 2 3) computed.3.5 (f l both-unfit Binary 0 (refused 16 2 3) computed.3.0 computed.3.7)).1
 
-pub seventeen-without-its-length : ((l : Layout) (s : List ℕ) (k : Kind) (room : ℕ) → answer (l s k room).number ≡ 17 → answer (l s k room).length ≡ 0) → ⊥
-seventeen-without-its-length f =
-    let e = answer-told (of-t1 Ascii) t1 Binary 23 (no_room 24) vectors.1.0 in
-    eqb-false 24 0 refl (sym (ap (λ a. a.length) e) ∙ f (of-t1 Ascii) t1 Binary 23 (ap (λ a. a.number) e))
-
-pub length-beside-sixteen : ((l : Layout) (s : List ℕ) (k : Kind) (room : ℕ) → answer (l s k room).number ≡ 16 → answer (l s k room).length ≡ 0 → ⊥) → ⊥
-length-beside-sixteen f =
-    let l = layout 1 0 2 Ascii in
-    let e = answer-told l both-unfit Binary 0 (no_file (refused 16 1 3)) computed.3.5 in
-    f l both-unfit Binary 0 (ap (λ a. a.number) e) (ap (λ a. a.length) e)
-
-pub exact-room-called-short : ((l : Layout) (s : List ℕ) (k : Kind) (new : List ℕ) → new_file l s k ≡ says new → answer (l s k (length new)).number ≡ 17) → ⊥
-exact-room-called-short f =
-    let e = ap (λ x. told_changed (changed_of x)) vectors.1.1 in
-    eqb-false 0 17 refl (sym (ap (λ a. a.number) e) ∙ f (of-t1 Ascii) t1 Binary t2 (said-made (of-t1 Ascii) t1 Binary 24 t2 vectors.1.1).0)
-
-pub seventeen-told-as-yes : ((l : Layout) (s : List ℕ) (k : Kind) (room : ℕ) (new : List ℕ) → new_file l s k ≡ says new → room < length new → answer (l s k room).number ≡ 0) → ⊥
-seventeen-told-as-yes f =
-    let e = answer-told (of-t1 Ascii) t1 Binary 23 (no_room 24) vectors.1.0 in
-    eqb-false 17 0 refl (sym (ap (λ a. a.number) e) ∙ f (of-t1 Ascii) t1 Binary 23 t2 (said-made (of-t1 Ascii) t1 Binary 24 t2 vectors.1.1).0 (lit≤ tt))
+pub length-says-17 : ((l : Layout) (s : List ℕ) (k : Kind) (room : ℕ) (r : Refusal) → change_said l s k room ≡ refuses r → bytes_needed l s k ≡ refuses r) → ⊥
+length-says-17 f =
+    let e : change_said (of-t1 Ascii) t1 Binary 0 ≡ refuses (refused 17 0 0) = change-needs (of-t1 Ascii) t1 Binary 0 ∙ rw vectors.1.0 in
+    never-17 (of-t1 Ascii) t1 Binary (refused 17 0 0) (f (of-t1 Ascii) t1 Binary 0 (refused 17 0 0) e) refl
 
 pub shows-a-number-always : ((l : Layout) (s : List ℕ) (m n : ℕ) → check_file l s ≡ Yes → has_row l m ≡ true → 1 ≤ n → n ≤ l.analogs
     → (z : ℤ) × (sample_at n (show_row l s m).row ≡ Is z))
@@ -431,7 +405,7 @@ pub repeats-the-sign : ((l : Layout) (s u : List ℕ) (room : ℕ) → l.kind �
 repeats-the-sign f = eqb-false 0x80 0xFF refl (f (layout 1 0 1 Binary) no-sample no-sample-wide 12 refl computed.4.2 refl)
 
 pub missing-fits-no-kind : ((l : Layout) (s : List ℕ) (k : Kind) (room : ℕ) → check_file l s ≡ Yes → sample_at 1 (show_row l s 1).row ≡ Missing
-    → (x : Unmade) × (change_said l s k room ≡ refuses x))
+    → (r : Refusal) × (change_said l s k room ≡ refuses r))
     → ⊥
 missing-fits-no-kind f =
     let e = f (layout 1 0 1 Binary) no-sample Binary32 12 computed.4.0 computed.4.1 in
@@ -467,7 +441,7 @@ edition-lost f =
 pub missing-left-empty : ((l : Layout) (s u : List ℕ) (room : ℕ) → sample_at 1 (show_row l s 1).row ≡ Missing → change_said l s Ascii room ≡ says u → get_or u 4 0 ≡ 13) → ⊥
 missing-left-empty f = eqb-false 57 13 refl (f (of-1999 1 0 1 Ascii) marked-text marked-text 14 computed.5.1 computed.5.10)
 
-pub every-kind-taken : ((l : Layout) (s : List ℕ) (k : Kind) (room : ℕ) (r : Refusal) → check_file l s ≡ Yes → change_said l s k room ≡ refuses (no_file r) → (r.number ≡ 10 → ⊥)) → ⊥
+pub every-kind-taken : ((l : Layout) (s : List ℕ) (k : Kind) (room : ℕ) (r : Refusal) → check_file l s ≡ Yes → change_said l s k room ≡ refuses r → (r.number ≡ 10 → ⊥)) → ⊥
 every-kind-taken f = f (of-1999 1 0 1 Ascii) marked-text Binary32 14 (refused 10 0 0) computed.5.0 computed.5.7 refl
 
 -- the recording of the rules as one of 1999

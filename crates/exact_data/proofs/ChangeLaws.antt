@@ -2,12 +2,11 @@
 --     outcome                  every sample is in range and all rows fit, or there is a first outside and the refusal is its place
 --     one-first, none_first    there is one first sample outside, and none where all are in range
 --     file-ext                 the same rows are written as the same file
---     said, said-file          the new file of a data file, by its rows alone
---     changed-rows             the bytes of the new file, by its rows alone
+--     said, said-file          what the change says of a data file, by its rows alone
 --     own_range                each sample of a data file is in the range of its own kind, or missing
 --     new-file, new-bytes, new-said     where every sample is in range, the new file is the data file of the same rows, it is bytes, and is said where there is room
 --     back-said, restored      and what is then said of changing back: the first file itself, or the plain text with its rows
---     told                     in all: the new file, no room for its length, or 16 at the first sample outside
+--     told                     in all: the new file, 17 where there is no room for it, or 16 at the first sample outside
 --     said-bytes               what is said is bytes
 -- Assumes nothing.
 use mathlib.Core.Path.{◌≡◌, refl, sym, ap, subst, ◌∙◌}
@@ -17,12 +16,12 @@ use mathlib.Core.List.{List, [], ◌++◌}
 use Prim.Native.Nat.{ℕ, zero, suc, ◌+◌, ◌≤◌, ◌<◌}
 use native.Mathlib.Nat.{add-zero, zero-add}
 use native.Mathlib.Omega.{arith}
-use borrow.Author.Tests.{eqb-true, eqb-false}
-use lib.Dec.{eqb}
+use borrow.Author.Tests.{eqb-true, eqb-false, le-leb, lt-leb}
+use lib.Dec.{eqb, leb}
 use lib.IntN.{ℤ, pos}
 use lib.ListN.{length, get_or}
 use lib.Signed.{clash_ℤ, ◌<ℤ◌}
-use Rattle.ground.specs.Said.{says, refuses, ◌>>◌}
+use Rattle.ground.specs.Said.{says, refuses, ◌>>◌, must}
 use Rattle.ground.specs.Tables.{every}
 use Rattle.ground.proofs.Cases.{on_test, lt-or-ge, clash}
 use Rattle.ground.proofs.Tables.{cat-ext}
@@ -45,9 +44,9 @@ use Rattle.row_bytes.proofs.KindLaws.{by-kind}
 use Rattle.data.specs.Files.{file_fine, row_at, misfit_of, end_mark, file_of}
 use Rattle.data.proofs.FileLaws as files
 use Rattle.data.proofs.FileLaws.{Writes}
-use Rattle.change.specs.Change.{no_room, no_file, change_said}
-use Rattle.change.proofs.ChangeLaws.{changing, change-said, change-short, change-refused}
-use Rattle.change_length.specs.NewFile.{fit_rows, changed, new_file}
+use Rattle.change.specs.Change.{change_said}
+use Rattle.change.proofs.ChangeLaws.{changing}
+use Rattle.change_length.specs.Needed.{fit_rows, changed}
 use Rattle.paper.specs.Data.{InRange, row_sample, TextFile, Allowed, DataFile}
 use Rattle.paper.specs.Written.{FitsIn, EndingOf, PlainText, Restored, AllInRange, FirstOutside}
 use Rattle.exact_data.proofs.NumberLaws.{fits-exactly, misfit-outside}
@@ -190,11 +189,12 @@ module _ (n : Layout) (f g : ℕ → Row) where
   unfolding file_of
   file-ext h = ap (λ (x : List ℕ). x ++ end_mark n) (cat-ext (λ i. bytes_of n (i + 1) (f i)) (λ i. bytes_of n (i + 1) (g i)) n.rows (λ i q. ap (bytes_of n (i + 1)) (h i q)))
 
--- the new file of a file that is fine and whose rows are r 0, r 1, ..
-pub said : (l : Layout) (r : ℕ → Row) (s : List ℕ) (k : Kind) → is_sized l ≡ true → has_kind l.edition k ≡ true → file_fine l s ≡ says tt → RowsAre l r s
-    → new_file l s k ≡ (fit_rows (in_kind k l) r 0 l.rows >> says (file_of (in_kind k l) r))
-unfolding new_file changed
-said l r s k ok has fine rows =
+-- what the change says of a file that is fine and whose rows are r 0, r 1, ..
+pub said : (l : Layout) (r : ℕ → Row) (s : List ℕ) (k : Kind) (room : ℕ) → is_sized l ≡ true → has_kind l.edition k ≡ true → file_fine l s ≡ says tt → RowsAre l r s
+    → change_said l s k room
+    ≡ (fit_rows (in_kind k l) r 0 l.rows >> (must (leb (length (file_of (in_kind k l) r)) room) (refused 17 0 0) >> says (file_of (in_kind k l) r)))
+unfolding change_said changed
+said l r s k room ok has fine rows =
     rw (ok, has, fine, fit-ext (in_kind k l) (row_at l s) r 0 l.rows (λ j q. rows j (omega arith)), file-ext (in_kind k l) (row_at l s) r rows)
 
 ending_there : (n : Layout) → EndingOf n.kind (end_mark n)
@@ -223,12 +223,10 @@ module _ (l : Layout) (r : ℕ → Row) (s : List ℕ) (allowed : Allowed l) (by
   pub own_range : AllInRange l l.kind r
   own_range i j h q = (row-fits-exactly l (r i)).0 (row-writes i h).all j q
 
-  pub said-file : (k : Kind) → has_kind l.edition k ≡ true → new_file l s k ≡ (fit_rows (in_kind k l) r 0 l.rows >> says (file_of (in_kind k l) r))
-  said-file k has = said l r s k (sized-is l size allowed.1) has fine.0 fine.1
-
-  pub changed-rows : (k : Kind) → changed l s k ≡ file_of (in_kind k l) r
-  unfolding changed
-  changed-rows k = file-ext (in_kind k l) (row_at l s) r fine.1
+  pub said-file : (k : Kind) (room : ℕ) → has_kind l.edition k ≡ true
+      → change_said l s k room
+      ≡ (fit_rows (in_kind k l) r 0 l.rows >> (must (leb (length (file_of (in_kind k l) r)) room) (refused 17 0 0) >> says (file_of (in_kind k l) r)))
+  said-file k room has = said l r s k room (sized-is l size allowed.1) has fine.0 fine.1
 
   -- every sample is in the range of kind k
   module _ (k : Kind) (all : AllInRange l k r) where
@@ -253,7 +251,7 @@ module _ (l : Layout) (r : ℕ → Row) (s : List ℕ) (allowed : Allowed l) (by
     new-bytes = bytes-stand (in_kind k l) r (sized-in k l size) new-writes (end_mark (in_kind k l)) (ending_there (in_kind k l))
 
     pub new-said : (room : ℕ) → has_kind l.edition k ≡ true → length (file_of (in_kind k l) r) ≤ room → change_said l s k room ≡ says (file_of (in_kind k l) r)
-    new-said room has = change-said l s k room (file_of (in_kind k l) r) (said-file k has ∙ rw all_fit)
+    new-said room has h = said-file k room has ∙ rw (all_fit, le-leb (length (file_of (in_kind k l) r)) room h)
 
   own-fit : fit_rows l r 0 l.rows ≡ says tt
   own-fit = all_fit l.kind own_range
@@ -263,9 +261,9 @@ module _ (l : Layout) (r : ℕ → Row) (s : List ℕ) (allowed : Allowed l) (by
       let n = in_kind k l in
       let ok = sized-is n (sized-in k l size) has in
       let w = new-writes k all in
-      let q : new_file n (file_of n r) l.kind ≡ (fit_rows l r 0 l.rows >> says (file_of l r))
-      = said n r (file_of n r) l.kind ok allowed.1 (files.fine_back n ok r w) (λ i j. files.row_back n ok r w i j ∙ new-trimmed k all i j) in
-      change-said n (file_of n r) l.kind room (file_of l r) (q ∙ rw own-fit) h
+      let q : change_said n (file_of n r) l.kind room ≡ (fit_rows l r 0 l.rows >> (must (leb (length (file_of l r)) room) (refused 17 0 0) >> says (file_of l r)))
+      = said n r (file_of n r) l.kind room ok allowed.1 (files.fine_back n ok r w) (λ i j. files.row_back n ok r w i j ∙ new-trimmed k all i j) in
+      q ∙ rw (own-fit, le-leb (length (file_of l r)) room h)
 
   pub restored : Restored l.kind l r s (file_of l r)
   restored =
@@ -281,20 +279,20 @@ module _ (l : Layout) (r : ℕ → Row) (s : List ℕ) (allowed : Allowed l) (by
       binary Binary e x = x
       binary Binary32 e x = x
 
-  -- the new file, no room for its length, or 16 at the first sample outside
+  -- the new file, 17, or 16 at the first sample outside
   pub told : (k : Kind) (room : ℕ) → has_kind l.edition k ≡ true
       → (AllInRange l k r × (length (file_of (in_kind k l) r) ≤ room) × (change_said l s k room ≡ says (file_of (in_kind k l) r)))
-      ⊎ ((AllInRange l k r × (room < length (file_of (in_kind k l) r)) × (change_said l s k room ≡ refuses (no_room (length (file_of (in_kind k l) r)))))
-      ⊎ ((i : ℕ) × (j : ℕ) × FirstOutside l k r i j × (change_said l s k room ≡ refuses (no_file (refused 16 (i + 1) (3 + j))))))
+      ⊎ ((AllInRange l k r × (room < length (file_of (in_kind k l) r)) × (change_said l s k room ≡ refuses (refused 17 0 0)))
+      ⊎ ((i : ℕ) × (j : ℕ) × FirstOutside l k r i j × (change_said l s k room ≡ refuses (refused 16 (i + 1) (3 + j)))))
   told k room has =
       let m = length (file_of (in_kind k l) r) in
       ⊎_elim
       (λ f.
       ⊎_elim
-      (λ (h : room < m). inr (inl (f.0, h, change-short l s k room (file_of (in_kind k l) r) (said-file k has ∙ rw f.1) h)))
+      (λ (h : room < m). inr (inl (f.0, h, said-file k room has ∙ rw (f.1, lt-leb m room h))))
       (λ (h : m ≤ room). inl (f.0, h, new-said k f.0 room has h))
       (lt-or-ge room m))
-      (λ (f : Outside l k r). inr (inr (f.i, f.j, f.first, change-refused l s k room (refused 16 (f.i + 1) (3 + f.j)) (said-file k has ∙ rw f.refusal))))
+      (λ (f : Outside l k r). inr (inr (f.i, f.j, f.first, said-file k room has ∙ rw f.refusal)))
       (outcome l k r)
 
   pub said-bytes : (k : Kind) (room : ℕ) (u : List ℕ) → change_said l s k room ≡ says u → every is_byte u ≡ true

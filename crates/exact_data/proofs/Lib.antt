@@ -5,4 +5,3 @@ pub mod FileLaws
 pub mod StandLaws
 pub mod PlainLaws
 pub mod ChangeLaws
-pub mod RoomLaws

@@ -1,9 +1,8 @@
 -- Laws of what rules say.
 --     must-told, must-holds     where a test comes first, and something is said, the test holds
---     then-fine, then-then      nothing more after it; three in a row, however they are bracketed
 --     then-told, bind-told      where one comes after another, and something is said, both say something
 --     bind-ext                  the same follows where the same follows from each value
---     bind_assoc                three in a row, each from what the one before it says
+--     bind_assoc                three in a row, however they are bracketed
 --     no_byte                   a refusal leaves a lent buffer as it was
 --     filled-told               a part that was lent and filled with what was said: the buffer is what was said over the old one
 --     only-told                 what was said stands at the buffer's front, what follows it is as it was, and so is the length
@@ -25,14 +24,6 @@ must-told false r x b e = (cc, cc)
 pub must-holds : {R : Type 0} (t : Bool) (r : R) → must t r ≡ says tt → t ≡ true
 must-holds true r e = refl
 must-holds false r e = cc
-
-pub then-fine : {R : Type 0} (x : Said R (Unit {0})) → (x >> says tt) ≡ x
-then-fine (says tt) = refl
-then-fine (refuses r) = refl
-
-pub then-then : {R B : Type 0} (x y : Said R (Unit {0})) (z : Said R B) → (x >> (y >> z)) ≡ (x >> y >> z)
-then-then (says u) y z = refl
-then-then (refuses r) y z = refl
 
 pub then-told : {R B : Type 0} (x : Said R (Unit {0})) (y : Said R B) (b : B) → (x >> y) ≡ says b → (x ≡ says tt) × (y ≡ says b)
 then-told (says tt) y b e = (refl, e)

@@ -8,7 +8,6 @@
 --     sample-back, sample-bytes-back            a sample is read as it was written, and its bytes are written as they were read
 --     holds-size, size_holds                    a sample of a layout is smaller than half of the numbers of its width, and the other way round
 --     short-told, short-holds                   a number in the range of the kind binary, by two tests; it is a sample of every layout
---     fits_wider                                what can be written in a layout can be written in every kind that is as wide
 --     holds-there                               a sample of a layout is not missing
 --     missing-fits, fits-there, there-fits      a missing sample can be written in every layout, any other where it is a sample of it
 --     fits_word, word_fits                      what can be written has a number, and the other way round
@@ -40,9 +39,7 @@ use Rattle.model.specs.declared.Kind.TheVariants.{Ascii, Binary, Binary32}
 use Rattle.model.specs.declared.Edition.{Edition}
 use Rattle.model.specs.declared.Edition.TheVariants.{Y2013, Y1999}
 use Rattle.model.specs.declared.Layout.{Layout}
-use Rattle.model.specs.Kinds.{width_of, half_of, lowest_of, highest_of}
-use Rattle.model.specs.Editions.{has_kind}
-use Rattle.model.specs.Layouts.{in_kind}
+use Rattle.model.specs.Kinds.{half_of, lowest_of, highest_of}
 use Rattle.model.specs.Samples.{missing, is_missing, none, is_none, holds, fits, sample_of_word, word_of_sample, marked_in, marked, is_mark}
 use Rattle.model.specs.Inner.{HasWord}
 use Rattle.model.proofs.KindLaws.{half_le}
@@ -197,21 +194,6 @@ short-kind Ascii Y1999 (negsuc n) h = rw (le-ltb 99998 n (omega arith))
 short-kind Binary e z h = inside 32766 z (omega arith)
 short-kind Binary32 e z h = inside 2147483646 z (omega arith)
 
--- a sample of a kind that the edition has is one of every kind that is as wide
-wide-kind : (k m : Kind) (e : Edition) (z : ℤ) → has_kind e k ≡ true → width_of k ≤ width_of m
-    → not (lt_z z (lowest_of k e)) && not (lt_z (highest_of k e) z) ≡ true
-    → not (lt_z z (lowest_of m e)) && not (lt_z (highest_of m e) z) ≡ true
-unfolding has_kind
-wide-kind Ascii Ascii e z has w h = h
-wide-kind Ascii Binary e z has w h = absurd (omega arith)
-wide-kind Ascii Binary32 Y2013 z has w h = h
-wide-kind Ascii Binary32 Y1999 z has w h = inside 2147483646 z (omega (arith, marked-size z h))
-wide-kind Binary m e z has w h = short-kind m e z (omega (arith, within 32766 z h))
-wide-kind Binary32 Ascii Y2013 z has w h = h
-wide-kind Binary32 Ascii Y1999 z has w h = cc
-wide-kind Binary32 Binary e z has w h = absurd (omega arith)
-wide-kind Binary32 Binary32 e z has w h = h
-
 module _ (l : Layout) where
   pub short-holds : (z : ℤ) → nat_abs z < 32768 → holds l z ≡ true
   unfolding holds
@@ -243,13 +225,6 @@ module _ (l : Layout) where
   pub there-fits : (z : ℤ) → (is_missing z ≡ false → holds l z ≡ true) → fits l z ≡ true
   unfolding fits
   there-fits z f = on_test (is_missing z) (λ t. rw t) (λ t. rw (t, f t))
-
-  pub fits_wider : (m : Kind) (z : ℤ) → has_kind l.edition l.kind ≡ true → width_of l.kind ≤ width_of m → fits l z ≡ true → fits (in_kind m l) z ≡ true
-  unfolding fits holds
-  fits_wider m z has w e =
-      on_test (is_missing z)
-      (λ t. rw t)
-      (λ t. rw t (wide-kind l.kind m l.edition z has w (rw t at e)))
 
   pub fits_word : (z : ℤ) → fits l z ≡ true → HasWord (half_of l.kind) z
   fits_word z e t = holds-size z (fits-there z e t)

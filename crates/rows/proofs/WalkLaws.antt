@@ -5,7 +5,6 @@
 --     fine-walk                 the file is fine where the walk finds it so
 --     fine-taken                a row that is fine takes what a row there takes
 --     here-within, has-row      a row lies within what is left
---     rest-turn, row-turn       a turn of a walk: what follows a row, and the row
 -- Assumes nothing.
 use mathlib.Core.Path.{◌≡◌, refl, sym, ap, ◌∙◌}
 use mathlib.Core.List.{List}
@@ -154,12 +153,3 @@ unfolding start_fine
 has-row l s h i k other =
     let e = length-told l s (sym (binary-kind l.kind (says tt) (binary_file.check_length l s) other) ∙ h) in
     rw (binary-rest l other s i, length-drop) (omega (arith, e, block-end i l.rows (binary.row_size l) k))
-
--- a turn of a walk: t is what follows i rows of s
-module _ (l : Layout) (s t : List ℕ) (i : ℕ) (here : t ≡ rest_of l s i) where
-  -- row i + 1, with which it begins, is fine and takes j bytes
-  pub rest-turn : (j : ℕ) → check_here l (i + 1) t ≡ says j → drop j t ≡ rest_of l s (i + 1)
-  rest-turn j f = rw (rest-next l s i, ← here, fine-taken l (i + 1) t j f)
-
-  pub row-turn : row_here l t ≡ row_at l s i
-  row-turn = rw here (sym (row-here l s i))

@@ -3,11 +3,10 @@
 ghost use Rattle.std.specs.Prelude.{◌≡◌, length};
 ghost use Rattle.ground.specs.Said.{over};
 ghost use Rattle.reasons.specs.Reasons.{reason_said};
-ghost use Rattle.answers.specs.Answers.{told, told_written, told_changed, told_shown};
-ghost use Rattle.change.specs.Change.{changed_of};
+ghost use Rattle.answers.specs.Answers.{told, told_written, told_shown};
 ghost use Rattle.calls_config.specs.Calls.{config_call};
 ghost use Rattle.calls_data.specs.Calls.{check_call, row_call, write_call};
-ghost use Rattle.calls_change.specs.Calls.{change_call};
+ghost use Rattle.calls_change.specs.Calls.{length_call, change_call};
 ghost use Rattle.calls_rewrite.specs.Calls.{write_config_call};
 
 use answers::zl_answer;
@@ -72,7 +71,23 @@ pub extern "C" fn zl_write_row(
     calls_data::write_row(a, d, rows, kind, edition, n, row, out)
 }
 
-// The file in another kind, written at the front of `out`, or nothing is; where it finds no room, its length is told.
+// How many bytes a change of kind needs, or the first refusal; never no room.
+#[unsafe(no_mangle)]
+pub extern "C" fn zl_length(
+    a: u32,
+    d: u32,
+    rows: u32,
+    kind: u32,
+    edition: u32,
+    data: &[u8],
+    new_kind: u32,
+) -> zl_answer
+    ensures { result ≡ told (length_call a d rows kind edition «data».now new_kind) }
+{
+    calls_change::length(a, d, rows, kind, edition, data, new_kind)
+}
+
+// The file in another kind, written at the front of `out`, or nothing is.
 #[unsafe(no_mangle)]
 pub extern "C" fn zl_change(
     a: u32,
@@ -84,7 +99,7 @@ pub extern "C" fn zl_change(
     new_kind: u32,
     out: &mut [u8],
 ) -> zl_answer
-    ensures value { result ≡ told_changed (changed_of (change_call a d rows kind edition «data».now new_kind (length out.old))) }
+    ensures value { result ≡ told_written (change_call a d rows kind edition «data».now new_kind (length out.old)) }
     ensures out_after { out.new ≡ over (change_call a d rows kind edition «data».now new_kind (length out.old)) out.old }
 {
     calls_change::change(a, d, rows, kind, edition, data, new_kind, out)

@@ -1,30 +1,30 @@
-use super::of_2013::{change, check, row, write_row};
-use super::{no, short, yes, T1, T2, T3};
+use super::of_2013::{change, check, length, row, write_row};
+use super::{no, yes, T1, T2, T3};
 use crate::{Answer, NONE};
 use dice::Dice;
 
-/// The new file, its length told where there is no room, then with exact, ample and too little room; or the refusal, which room does not change.
+/// The new file, its length asked first, then with exact, ample and too little room; or the refusal.
 pub fn changed(a: u32, d: u32, rows: u32, kind: u32, data: &[u8], new_kind: u32) -> Result<Vec<u8>, Answer> {
-    let asked = change(a, d, rows, kind, data, new_kind, &mut []);
-    assert_ne!(asked.number, 0);
-    if asked.number != 17 {
+    let asked = length(a, d, rows, kind, data, new_kind);
+    if asked.number != 0 {
         let mut out = [3; 50];
         assert_eq!(change(a, d, rows, kind, data, new_kind, &mut out), asked);
-        assert_eq!(asked.length, 0);
+        assert_eq!(change(a, d, rows, kind, data, new_kind, &mut []), asked);
         assert_eq!(out, [3; 50]);
         return Err(asked);
     }
-    assert_eq!(asked, short(asked.length));
+    assert_eq!(asked, yes(asked.length));
     let needed = asked.length as usize;
     let mut exact = vec![0xEE; needed];
-    assert_eq!(change(a, d, rows, kind, data, new_kind, &mut exact), yes(asked.length));
+    assert_eq!(change(a, d, rows, kind, data, new_kind, &mut exact), asked);
     let mut ample = vec![0xEE; needed + 9];
-    assert_eq!(change(a, d, rows, kind, data, new_kind, &mut ample), yes(asked.length));
+    assert_eq!(change(a, d, rows, kind, data, new_kind, &mut ample), asked);
     assert_eq!(ample[..needed], exact);
     assert_eq!(ample[needed..], [0xEE; 9]);
-    let mut less = vec![0xEE; needed - 1];
-    assert_eq!(change(a, d, rows, kind, data, new_kind, &mut less), asked);
-    assert_eq!(less, vec![0xEE; needed - 1]);
+    let mut short = vec![0xEE; needed - 1];
+    assert_eq!(change(a, d, rows, kind, data, new_kind, &mut short), no(17, 0, 0));
+    assert_eq!(short, vec![0xEE; needed - 1]);
+    assert_eq!(change(a, d, rows, kind, data, new_kind, &mut []), no(17, 0, 0));
     Ok(exact)
 }
 
@@ -154,9 +154,10 @@ fn a_million_rows() {
     for n in 1..=1_000_000u32 {
         data.extend_from_slice(format!("{n},{},{},{}\r\n", n * 4, n as i32 % 1000 - 500, n % 2).as_bytes());
     }
-    assert_eq!(change(1, 1, 1_000_000, 0, &data, 1, &mut []), short(12_000_000));
+    let short = length(1, 1, 1_000_000, 0, &data, 1);
+    assert_eq!(short, yes(12_000_000));
     let mut out = vec![0; 12_000_000];
-    assert_eq!(change(1, 1, 1_000_000, 0, &data, 1, &mut out), yes(12_000_000));
+    assert_eq!(change(1, 1, 1_000_000, 0, &data, 1, &mut out), short);
     let mut places = [0; 3];
     assert_eq!(row(1, 1, 1_000_000, 1, &out, 1_000_000, &mut places), yes(0));
     assert_eq!(places, [4_000_000, -500, 0]);

@@ -2,8 +2,8 @@
 
 use super::config::{ask, shown};
 use super::write_config::written;
-use super::{join, no, short, with, yes, S};
-use crate::{change, check, list, row, write_row, Answer, LayoutNumbers, NONE};
+use super::{join, no, with, yes, S};
+use crate::{change, check, length, list, row, write_row, Answer, LayoutNumbers, NONE};
 
 /// One analog channel, one status channel, one row of text.
 const TEXT: LayoutNumbers = LayoutNumbers { a: 1, d: 1, rows: 1, kind: 0, edition: 1999 };
@@ -71,8 +71,8 @@ fn binary(sample: [u8; 2]) -> Vec<u8> {
 fn checked(layout: LayoutNumbers, data: &[u8]) -> Answer {
     let answer = check(layout, data);
     assert_eq!(row(layout, data, 1, &mut [0; 9]), answer);
-    let asked = change(layout, data, layout.kind, &mut []);
-    assert_eq!(asked, if answer.number == 0 { short(asked.length) } else { answer });
+    let asked = length(layout, data, layout.kind);
+    assert_eq!(Answer { length: 0, ..asked }, answer);
     answer
 }
 
@@ -83,16 +83,16 @@ fn first_row(layout: LayoutNumbers, data: &[u8]) -> Vec<i64> {
     places
 }
 
-/// The file in another kind, of the length told where there is no room; or the refusal, which room does not change.
+/// The file in another kind, or the refusal, which the length gives too.
 fn changed(layout: LayoutNumbers, data: &[u8], new_kind: u32) -> Result<Vec<u8>, Answer> {
-    let asked = change(layout, data, new_kind, &mut []);
+    let asked = length(layout, data, new_kind);
     let mut out = vec![0xEE; asked.length as usize];
-    if asked.number == 17 {
-        assert_eq!(change(layout, data, new_kind, &mut out), yes(asked.length));
-        return Ok(out);
+    assert_eq!(change(layout, data, new_kind, &mut out), asked);
+    if asked.number == 0 {
+        Ok(out)
+    } else {
+        Err(asked)
     }
-    assert_eq!(change(layout, data, new_kind, &mut [0xEE; 40]), asked);
-    Err(asked)
 }
 
 /// Row 1 with this sample, as it is written.

@@ -9,7 +9,6 @@ mod missing;
 mod no_date;
 mod numbers;
 mod of_2013;
-mod one_call;
 mod write_config;
 
 use crate::Answer;
@@ -49,11 +48,6 @@ pub const T3: &[u8] = &[
 /// A "no" with its place.
 pub fn no(number: u32, at: u32, field: u32) -> Answer {
     Answer { number, at, field, length: 0 }
-}
-
-/// The 17 of a change, with the length that the new file takes.
-pub fn short(length: u32) -> Answer {
-    Answer { length, ..no(17, 0, 0) }
 }
 
 /// A "yes" with its length.

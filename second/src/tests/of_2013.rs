@@ -19,6 +19,10 @@ pub fn write_row(a: u32, d: u32, rows: u32, kind: u32, n: u32, row: &[i64], out:
     crate::write_row(layout(a, d, rows, kind), n, row, out)
 }
 
+pub fn length(a: u32, d: u32, rows: u32, kind: u32, data: &[u8], new_kind: u32) -> Answer {
+    crate::length(layout(a, d, rows, kind), data, new_kind)
+}
+
 pub fn change(a: u32, d: u32, rows: u32, kind: u32, data: &[u8], new_kind: u32, out: &mut [u8]) -> Answer {
     crate::change(layout(a, d, rows, kind), data, new_kind, out)
 }

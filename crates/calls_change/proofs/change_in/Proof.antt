@@ -1,5 +1,6 @@
 -- `calls_change::change_in` meets its contract: the kind of the number, and then the call below.
 use Rattle.calls_change.specs.Inner.{change_in}
+use Rattle.answers.proofs.CountedLaws.{counted-written}
 use mathlib.Core.Path.{sym, ◌∙◌}
 use borrow.Author.Rules.{rules}
 use Rattle.calls_change.proofs.change_in.Statement.{statement}
@@ -14,8 +15,8 @@ enum-known-k c = search rules
 change-requires : tie.Need-change-requires
 change-requires c κs = search rules
 
-told-changed-requires : tie.Need-told-changed-requires
-told-changed-requires c κs = search rules
+counted-requires : tie.Need-counted-requires
+counted-requires c κs = search rules
 
 enum_told : tie.Need-enum-told
 enum_told c = search rules
@@ -35,7 +36,7 @@ returns c =
     let b = c.before.before.before.before.before.before in
     let kind = sym b.before.before.of.ensures ∙ b.k.given.1 in
     let said = c.before.before.before.change.ensures in
-    (rw (c.told-changed.ensures, said.0.0, kind), rw kind said.1)
+    (rw (c.counted.ensures, said.0.0, counted-written, kind), rw kind said.1)
 
 returns-2 : tie.Need-returns-2
 unfolding change_in
@@ -51,7 +52,7 @@ change-in-spec =
     of-requires
     enum-known-k
     change-requires
-    told-changed-requires
+    counted-requires
     enum_told
     refused-requires
     no-requires

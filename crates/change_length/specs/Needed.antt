@@ -1,5 +1,5 @@
--- The new file of a change of kind, whatever the room: the new kind's writing of the rows that the old kind's reading gives. Refusals in the paper's order.
-use Rattle.std.specs.Prelude.{List, ℕ, zero, suc, ◌+◌, eqb}
+-- How many bytes a change of kind needs: those of the new file, the new kind's writing of the rows that the old kind's reading gives. Refusals in the paper's order.
+use Rattle.std.specs.Prelude.{List, ℕ, zero, suc, ◌+◌, eqb, length}
 use Rattle.ground.specs.Said.{Said, says, ◌>>◌, must}
 use Rattle.model.specs.declared.Kind.{Kind}
 use Rattle.model.specs.declared.Layout.{Layout}
@@ -21,15 +21,15 @@ fit_rows l r i (suc m) = do
   fit_row l (i + 1) (r i)
   fit_rows l r (i + 1) m
 
--- the bytes of the new file
+-- the new file
 unfoldable pub changed : Layout → List ℕ → Kind → List ℕ
 changed l s k = file_of (in_kind k l) (row_at l s)
 
--- the new file, in a kind that the edition has: 10, the file's refusals, 16
-unfoldable pub new_file : Layout → List ℕ → Kind → Said Refusal (List ℕ)
-new_file l s k = do
+-- the length question: how many bytes the new file has; it refuses as the change does, but never with 17
+unfoldable pub bytes_needed : Layout → List ℕ → Kind → Said Refusal ℕ
+bytes_needed l s k = do
   must (is_sized l) (refused 10 0 0)
   must (has_kind l.edition k) (refused 10 0 0)
   file_fine l s
   fit_rows (in_kind k l) (row_at l s) 0 l.rows
-  says (changed l s k)
+  says (length (changed l s k))

@@ -1,5 +1,7 @@
 // What every exported call answers, and how it is made of an answer of the calls below.
 // Each function gives exactly what the definition of its name says.
+#![tactic(auto)]
+
 ghost use Rattle.std.specs.Prelude.{◌≡◌};
 ghost use Rattle.model.specs.declared.KindNo.TheVariants as number;
 ghost use Rattle.model.specs.Editions.{edition_of};
@@ -11,7 +13,7 @@ use model::{Answer, Edition, EditionNo, Kind, KindNo, Layout, Refusal, Written};
 
 // The refusal's number and place, zeros for yes; the length in bytes where the call has one, 0 elsewhere.
 #[repr(C)]
-#[derive(Drop)]
+#[derive(Clone, Copy)]
 pub struct zl_answer {
     pub number: u32,
     pub at: u32,
@@ -63,7 +65,7 @@ pub fn counted(answer: Written) -> zl_answer
 }
 
 // A layout, or that there is no such kind or edition.
-#[derive(Drop)]
+#[derive(Clone, Copy)]
 pub enum LayoutNo {
     Is(Layout),
     None,

@@ -1,5 +1,7 @@
 // Files of text: the check row by row and of what follows the last, and the row at a place.
 // Each function gives, on any bytes, exactly what the definition of its name says; no more than one row is held at a time.
+#![tactic(auto)]
+
 ghost use Rattle.std.specs.Prelude.{◌≡◌};
 ghost use Rattle.model.specs.Layouts.{Sized};
 ghost use Rattle.model.specs.Refusals.{answer_of};
@@ -13,7 +15,7 @@ use text::Scanned;
 const LONGEST: usize = 1880;
 
 // How many bytes a row takes, or why it is refused.
-#[derive(Drop)]
+#[derive(Clone, Copy)]
 pub enum Checked {
     Takes(usize),
     No(Refusal),

@@ -1,5 +1,7 @@
 // The plain text row of an ASCII data file: how long it is, and its bytes.
 // Each function gives exactly what the definition of its name says; the laws of proofs/ say how long the line is, that it is a line, and what its fields are.
+#![tactic(auto)]
+
 ghost use Rattle.std.specs.Prelude.{◌≡◌, [], ◌∷◌, ◌++◌, ◌+◌, ◌*◌, ◌≤◌, length};
 ghost use Rattle.numerals.specs.Decimals.{decimal};
 ghost use Rattle.model.specs.Layouts.{Sized};

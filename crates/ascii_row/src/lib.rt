@@ -1,5 +1,7 @@
 // Rows of text: whether the line of a row is fine, and the row that it says.
 // Each function gives, on any bytes, exactly what the definition of its name says; a line is walked a fixed number of times, whatever its number of fields.
+#![tactic(auto)]
+
 ghost use Rattle.std.specs.Prelude.{◌≡◌, true, false, List, [], ℕ, ◌+◌, ◌≤◌, ◌<◌, pos, length};
 ghost use Rattle.ground.specs.Tables.{tab, padded};
 ghost use Rattle.text.specs.Fields.{field_at};

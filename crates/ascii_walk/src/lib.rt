@@ -1,5 +1,7 @@
 // A row of text, read through in one walk that finds where each field ends as it reads it.
 // A function claims something only where it answers more than 0, or true; where it does not, crate ascii_row says why.
+#![tactic(auto)]
+
 ghost use Rattle.std.specs.Prelude.{◌≡◌, true, false, ◌&&◌, [], ◌∷◌, ◌+◌, ◌*◌, ◌≤◌, ◌<◌, eqb, length};
 ghost use Rattle.numerals.specs.Inner.{CountThere};
 ghost use Rattle.model.specs.declared.Layout.{Layout};

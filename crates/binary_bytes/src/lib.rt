@@ -1,5 +1,7 @@
 // Rows of the two binary kinds, written: the bytes of a row, by the sample width alone.
 // Each function gives exactly what the definition of its name says; the laws of proofs/ say that reading undoes writing, and writing reading.
+#![tactic(auto)]
+
 ghost use Rattle.std.specs.Prelude.{◌≡◌, ◌++◌, ◌+◌, ◌*◌, ◌≤◌, length};
 ghost use Rattle.model.specs.Kinds.{width_of, half_of};
 ghost use Rattle.model.specs.Layouts.{Sized};

@@ -1,5 +1,7 @@
 // Files of the two binary kinds: the length, then the check row by row, and the row at a place.
 // Each function gives exactly what the definition of its name says; the laws of proofs/ say that a file of written rows is accepted and shows them, and that an accepted file is the file of its rows.
+#![tactic(auto)]
+
 ghost use Rattle.std.specs.Prelude.{◌≡◌, ◌*◌, ◌<◌, length};
 ghost use Rattle.model.specs.Layouts.{Sized};
 ghost use Rattle.model.specs.Refusals.{answer_of};

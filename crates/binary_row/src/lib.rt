@@ -1,5 +1,7 @@
 // Rows of the two binary kinds: their size, whether their bytes are fine, and the row that they are, by the sample width alone.
 // Each function gives exactly what the definition of its name says.
+#![tactic(auto)]
+
 ghost use Rattle.std.specs.Prelude.{◌≡◌, false, ◌*◌, ◌≤◌, min, pos, length};
 ghost use Rattle.ground.specs.Tables.{tab, padded};
 ghost use Rattle.model.specs.Kinds.{width_of, half_of};

@@ -1,5 +1,7 @@
 // The exported calls on a change of kind: zl_length and zl_change.
 // Each answers every combination of its arguments, and gives exactly what the definition of its name says; a refusal changes no lent byte.
+#![tactic(auto)]
+
 ghost use Rattle.std.specs.Prelude.{◌≡◌, length};
 ghost use Rattle.ground.specs.Said.{over};
 ghost use Rattle.answers.specs.Answers.{told, told_written};

@@ -1,5 +1,7 @@
 // The exported call on a configuration: zl_config.
 // It answers every combination of its arguments, and gives exactly what the definition of its name says; a refusal changes no lent place.
+#![tactic(auto)]
+
 ghost use Rattle.std.specs.Prelude.{◌≡◌, length};
 ghost use Rattle.ground.specs.Said.{over};
 ghost use Rattle.config_places.specs.Configs.{config_places};

@@ -1,5 +1,7 @@
 // The exported calls on a data file: zl_check, zl_row and zl_write_row.
 // Each answers every combination of its arguments, and gives exactly what the definition of its name says; a refusal changes no lent place or byte.
+#![tactic(auto)]
+
 ghost use Rattle.std.specs.Prelude.{◌≡◌, length};
 ghost use Rattle.ground.specs.Said.{over};
 ghost use Rattle.model.specs.Layouts.{Sized};

@@ -1,5 +1,7 @@
 // The exported call on a refusal's number: zl_reason.
 // It answers every combination of its arguments, and gives exactly what the definition of crate reasons says; a refusal changes no lent byte.
+#![tactic(auto)]
+
 ghost use Rattle.std.specs.Prelude.{◌≡◌, length};
 ghost use Rattle.ground.specs.Said.{over};
 ghost use Rattle.reasons.specs.Reasons.{reason_said};

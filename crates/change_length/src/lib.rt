@@ -1,5 +1,7 @@
 // The length question: how many bytes a change of kind needs, or the first refusal.
 // A change is the new kind's writing of the rows that the old kind's reading gives; all that may refuse it, but for the room, is decided here in one walk.
+#![tactic(auto)]
+
 ghost use Rattle.std.specs.Prelude.{◌≡◌, true, ◌+◌, ◌*◌, ◌≤◌, length};
 ghost use Rattle.ground.specs.Said.{says};
 ghost use Rattle.model.specs.declared.Kind.TheVariants.{Ascii};
@@ -15,7 +17,7 @@ use ascii_file::Checked;
 use model::{Answer, Kind, Layout, Refusal, Written};
 
 // The first misfit's row and field, zeros where there is none, and the length of the rows.
-#[derive(Drop)]
+#[derive(Clone, Copy)]
 pub struct Tally {
     pub at: u32,
     pub field: u32,
@@ -23,7 +25,7 @@ pub struct Tally {
 }
 
 // The tally of a file that is fine, or its refusal.
-#[derive(Drop)]
+#[derive(Clone, Copy)]
 pub enum Weighed {
     Whole(Tally),
     No(Refusal),

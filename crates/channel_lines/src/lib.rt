@@ -1,5 +1,7 @@
 // The lines of a configuration that speak of channels: how many there are, and one line for each.
 // Each reader answers for any bytes: the line's values, or the number and field of its first refusal with zeros beside it.
+#![tactic(auto)]
+
 ghost use Rattle.std.specs.Prelude.{◌≡◌};
 ghost use Rattle.reals.specs.Inner.{Sound};
 ghost use Rattle.line_fields.specs.Answers.{fault_of};
@@ -12,7 +14,7 @@ use line_fields::{
 };
 use reals::{Exact, Limit};
 
-#[derive(Drop)]
+#[derive(Clone, Copy)]
 pub struct Channels {
     pub fault: Fault,
     pub analogs: u64,

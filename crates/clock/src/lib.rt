@@ -1,5 +1,7 @@
 // Dates and no date, times of day, days and seconds as i64, the pre-trigger time.
 // Each reader answers for any bytes what the definition of its name says; what it takes for a date or a time is one, and pre_trigger is exact for all of them; pretrigger_of tells where there is none.
+#![tactic(auto)]
+
 pub mod dates;
 pub mod spans;
 pub mod times;
@@ -8,7 +10,7 @@ pub use dates::{day_number, read_date, valid_date};
 pub use spans::{pre_trigger, pretrigger_of, second_number};
 pub use times::{is_zero_time, read_time, valid_time};
 
-#[derive(Drop)]
+#[derive(Clone, Copy)]
 pub struct Date {
     pub day: u32,
     pub month: u32,
@@ -16,7 +18,7 @@ pub struct Date {
 }
 
 // A date, no date (all zeros), a wrong form, or a form that is right and no date of the calendar.
-#[derive(Drop)]
+#[derive(Clone, Copy)]
 pub enum DateField {
     Is(Date),
     None,
@@ -24,7 +26,7 @@ pub enum DateField {
     Range,
 }
 
-#[derive(Drop)]
+#[derive(Clone, Copy)]
 pub struct Time {
     pub hour: u32,
     pub minute: u32,
@@ -33,7 +35,7 @@ pub struct Time {
 }
 
 // A time of day, a wrong form, or a form that is right and no time of day.
-#[derive(Drop)]
+#[derive(Clone, Copy)]
 pub enum TimeField {
     Is(Time),
     Form,
@@ -41,28 +43,28 @@ pub enum TimeField {
 }
 
 // A date and a time.
-#[derive(Drop)]
+#[derive(Clone, Copy)]
 pub struct Moment {
     pub date: Date,
     pub time: Time,
 }
 
 // What a date line says: a moment, or no date.
-#[derive(Drop)]
+#[derive(Clone, Copy)]
 pub enum Stamp {
     At(Moment),
     None,
 }
 
 // A signed time: whole seconds, rounded down, and the nanoseconds above them.
-#[derive(Drop)]
+#[derive(Clone, Copy)]
 pub struct Span {
     pub seconds: i64,
     pub nanoseconds: u32,
 }
 
 // The time from the first sample to the trigger, unknown where either has no date.
-#[derive(Drop)]
+#[derive(Clone, Copy)]
 pub enum Pretrigger {
     Is(Span),
     Unknown,

@@ -1,10 +1,12 @@
 // Time codes: a field's signed minutes, or a small x.
 // Each reader answers for any bytes what the definition of its name says.
+#![tactic(auto)]
+
 ghost use Rattle.std.specs.Prelude.{◌≡◌, ◌≤◌};
 ghost use Rattle.codes.specs.Codes.{signed_minutes, minutes_of, hours_and_minutes, hours_of, small_x, code_of, code_in, read_code, read_local_code};
 
 // A time code in signed minutes, a small x, a wrong form, or hours or minutes out of range.
-#[derive(Drop)]
+#[derive(Clone, Copy)]
 pub enum Code {
     Minutes(i64),
     X,

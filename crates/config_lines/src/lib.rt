@@ -1,5 +1,7 @@
 // The lines of a configuration that speak of no channel, each by itself: how many fields it has, and what each field must say.
 // Each reader answers for any bytes: the line's values, or the number and field of its first refusal with zeros, or no date, beside it.
+#![tactic(auto)]
+
 ghost use Rattle.std.specs.Prelude.{◌≡◌};
 ghost use Rattle.model.specs.Editions.{edition_of};
 ghost use Rattle.fields.specs.Fields.{read_year};
@@ -17,31 +19,31 @@ use line_fields::{Fault, above_fault, at, frequency_fault, rate_fault, text_faul
 use model::{Edition, EditionNo, Kind};
 use numerals::Count;
 
-#[derive(Drop)]
+#[derive(Clone, Copy)]
 pub struct Station {
     pub fault: Fault,
     pub edition: Edition,
 }
 
-#[derive(Drop)]
+#[derive(Clone, Copy)]
 pub struct Counted {
     pub fault: Fault,
     pub value: u64,
 }
 
-#[derive(Drop)]
+#[derive(Clone, Copy)]
 pub struct Dated {
     pub fault: Fault,
     pub stamp: Stamp,
 }
 
-#[derive(Drop)]
+#[derive(Clone, Copy)]
 pub struct Kinded {
     pub fault: Fault,
     pub kind: Kind,
 }
 
-#[derive(Drop)]
+#[derive(Clone, Copy)]
 pub struct Coded {
     pub fault: Fault,
     pub code: i64,
@@ -49,7 +51,7 @@ pub struct Coded {
     pub local: i64,
 }
 
-#[derive(Drop)]
+#[derive(Clone, Copy)]
 pub struct Quality {
     pub fault: Fault,
     pub quality: u64,

@@ -1,5 +1,7 @@
 // What an accepted configuration shows as places, whole numbers of 64 bits, as the exported calls show it.
 // Each function gives exactly what the definition of its name says.
+#![tactic(auto)]
+
 ghost use Rattle.std.specs.Prelude.{◌≡◌, [], ◌∷◌, ◌++◌, pos, length};
 ghost use Rattle.model.specs.Editions.{year_of};
 ghost use Rattle.config_rules.specs.declared.Last.TheVariants.{Lines};

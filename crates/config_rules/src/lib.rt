@@ -1,5 +1,7 @@
 // The rules of a configuration's lines: what a line must be, what it adds to the configuration, and which rule comes next.
 // Each function gives exactly what the definition of its name says, on any bytes; the rule of a line is found from what the lines before it said, never from the bytes.
+#![tactic(auto)]
+
 ghost use Rattle.std.specs.Prelude.{◌≡◌};
 ghost use Rattle.config_rules.specs.Shown.{with_kind};
 ghost use Rattle.config_rules.specs.Inner.{after_analog, after_status, after_rate, after_multiplier, with_edition, with_last, with_stamps, with_end, qualified, take_line, Ready};
@@ -9,7 +11,7 @@ use line_fields::Fault;
 use model::{Edition, Kind, Layout};
 
 // What the last two lines say, where the edition has them: time code, whether the local code is x, local code, quality, leap second code.
-#[derive(Drop)]
+#[derive(Clone, Copy)]
 pub struct LastLines {
     pub code: i64,
     pub x: bool,
@@ -19,14 +21,14 @@ pub struct LastLines {
 }
 
 // The last two lines, or that there are none.
-#[derive(Drop)]
+#[derive(Clone, Copy)]
 pub enum Last {
     Lines(LastLines),
     Absent,
 }
 
 // What an accepted configuration shows.
-#[derive(Drop)]
+#[derive(Clone, Copy)]
 pub struct Config {
     pub layout: Layout,
     pub rates: u32,
@@ -38,7 +40,7 @@ pub struct Config {
 }
 
 // The rule of the next line: the i-th channel from 1, the i-th rate from 0; or no line is left.
-#[derive(Drop)]
+#[derive(Clone, Copy)]
 pub enum Rule {
     Station,
     Counts,
@@ -57,7 +59,7 @@ pub enum Rule {
 }
 
 // A line that was judged: its fault, the rule of the line after it, and what is shown so far.
-#[derive(Drop)]
+#[derive(Clone, Copy)]
 pub struct Taken {
     pub fault: Fault,
     pub rule: Rule,

@@ -1,5 +1,7 @@
 // Data files of every kind: check, show a row, write a row.
 // Each call gives, on any input, exactly what the definition of its name says, and a refusal changes no byte; the laws of proofs/ say that a file of written rows is accepted and shows them.
+#![tactic(auto)]
+
 ghost use Rattle.std.specs.Prelude.{◌≡◌, ◌<◌, length};
 ghost use Rattle.ground.specs.Said.{refuses, over};
 ghost use Rattle.model.specs.Layouts.{Sized};
@@ -12,7 +14,7 @@ ghost use Rattle.data.specs.Inner.{shown};
 use model::{Answer, Kind, Layout, Refusal, Row, Written};
 
 // A row, or a refusal and the row with every place zero.
-#[derive(Drop)]
+#[derive(Clone, Copy)]
 pub struct RowAnswer {
     pub answer: Answer,
     pub row: Row,

@@ -1,5 +1,7 @@
 // What a field says where it may be one of a few things: counts in a range, counts with a letter, a year, one character, the word of a kind.
 // Each reader tells three answers apart, for any bytes: the value, a wrong form (5), and a right form that is not allowed (6).
+#![tactic(auto)]
+
 ghost use Rattle.std.specs.Prelude.{◌≡◌, ◌≤◌, ◌-◌};
 ghost use Rattle.fields.specs.Fields.{in_range, read_count_in, read_lettered, read_year, is_among, read_one_of, digit_value, read_digit_of};
 ghost use Rattle.fields.specs.Fields.{read_state, read_side, read_quality, read_leap, small, same_word, read_kind};
@@ -8,7 +10,7 @@ use model::Kind;
 use numerals::Count;
 
 // A value, a wrong form, or a value that is not allowed.
-#[derive(Drop)]
+#[derive(Clone, Copy)]
 pub enum Field {
     Is(u64),
     Form,
@@ -16,7 +18,7 @@ pub enum Field {
 }
 
 // A kind, a wrong form, or a word that is no kind's.
-#[derive(Drop)]
+#[derive(Clone, Copy)]
 pub enum KindField {
     Is(Kind),
     Form,

@@ -1,5 +1,7 @@
 // What is wrong with a field of a configuration's line, as the paper's number, and the fault of a line.
 // Each check answers for any bytes: 0 where the field is fine.
+#![tactic(auto)]
+
 ghost use Rattle.std.specs.Prelude.{◌≡◌};
 ghost use Rattle.line_fields.specs.Faults.{value_of, text_fault, index_fault, real_fault, frequency_fault, above_fault, zero_fault, rate_fault, side_fault, state_fault};
 
@@ -8,14 +10,14 @@ use numerals::Count;
 use reals::Real;
 
 // A refusal's number and field; zeros for none.
-#[derive(Drop)]
+#[derive(Clone, Copy)]
 pub struct Fault {
     pub number: u32,
     pub field: u32,
 }
 
 // A field's value beside its number.
-#[derive(Drop)]
+#[derive(Clone, Copy)]
 pub struct Value {
     pub number: u32,
     pub value: u64,

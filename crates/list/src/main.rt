@@ -1,5 +1,7 @@
 // Lists a recording on its standard output: the two arguments name the configuration and the data file.
 // What it prints is the text that the crate `list_text` puts, which is proved; a file that can't be read, and wrong arguments, are one line on standard error.
+#![tactic(auto)]
+
 ghost use Rattle.std.specs.Prelude.{◌≡◌, length};
 ghost use Rattle.list.specs.Inner.{Within};
 
@@ -9,7 +11,7 @@ use libc::{STDERR_FILENO, STDOUT_FILENO};
 const FILE_ROOM: usize = 65537;
 
 // So many bytes were read, or none for a reason that was told.
-#[derive(Drop)]
+#[derive(Clone, Copy)]
 enum Got {
     Bytes(usize),
     Failed,

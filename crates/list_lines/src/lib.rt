@@ -1,6 +1,8 @@
 // The lines of a listing: the first line, the line of a row, the line of a refusal, each put piece after piece.
 // Each function puts its text after the first n bytes of its room, just as the definition of specs/ has it, and tells where it ends; what follows stays.
 // A row's channels are asked for by numbers of their own sort.
+#![tactic(auto)]
+
 ghost use Rattle.std.specs.Prelude.{◌≡◌, ◌∷◌, ◌+◌, ◌*◌, ◌≤◌, length};
 ghost use Rattle.numerals.specs.Decimals.{decimal, plain};
 ghost use Rattle.model.specs.Layouts.{Sized};

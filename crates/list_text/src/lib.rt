@@ -1,6 +1,8 @@
 // The listing of a recording: the text that says what a configuration and a data file hold, or why one of them is refused.
 // put_listing answers for any two files, and puts just the text that the definition `listing` gives in front of its room; what stands past it stays.
 // The data file is checked once, and each row is read from its place.
+#![tactic(auto)]
+
 ghost use Rattle.std.specs.Prelude.{◌≡◌, ◌+◌, ◌*◌, ◌≤◌, length};
 ghost use Rattle.ground.specs.Said.{says};
 ghost use Rattle.model.specs.Layouts.{Sized};

@@ -1,5 +1,7 @@
 // Fields whose characters have their places: patterns, the digits at a place, and a number between two others.
 // Each function gives what the definition of its name says, for any bytes.
+#![tactic(auto)]
+
 ghost use Rattle.std.specs.Prelude.{◌≡◌, ◌+◌, ◌≤◌, length};
 ghost use Rattle.patterns.specs.Patterns.{fits_character, fits_pattern, digits_at, between};
 

@@ -1,5 +1,7 @@
 // Text put piece after piece: the bytes of a slice, the word of a kind.
 // Each function puts its text after the first n bytes of its room, and tells where it ends; what follows stays.
+#![tactic(auto)]
+
 ghost use Rattle.std.specs.Prelude.{◌≡◌, ◌+◌, ◌≤◌, length};
 ghost use Rattle.model.specs.Kinds.{kind_name};
 ghost use Rattle.pieces.specs.Inner.{Put};

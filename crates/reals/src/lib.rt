@@ -1,5 +1,7 @@
 // Reals as exact decimals: their form, their sign, their order.
 // Each reader says what a field is, for any bytes, as the definitions of specs/ have it; no number is rounded, and none is a float.
+#![tactic(auto)]
+
 ghost use Rattle.std.specs.Prelude.{◌≡◌, ◌<◌, ◌≤◌, ◌*◌, ◌^◌, length};
 ghost use Rattle.numerals.specs.Inner.{Below};
 ghost use Rattle.reals.specs.Forms.{leading_digits, fraction_length, mantissa_length, is_e, short_number, raised_by, signed_exponent, exponent_of, real_form, is_nought, is_zero, sign_of, real_sign, signed_real, read_real};
@@ -9,7 +11,7 @@ ghost use Rattle.reals.specs.Inner.{Sound};
 use numerals::Count;
 
 // A real by its sign, or a wrong form.
-#[derive(Drop)]
+#[derive(Clone, Copy)]
 pub enum Real {
     Below,
     Zero,
@@ -18,7 +20,7 @@ pub enum Real {
 }
 
 // The number digits * 10 ^ scale / 10 ^ 1100, with a minus in front where minus is true.
-#[derive(Drop)]
+#[derive(Clone, Copy)]
 pub struct Exact {
     pub minus: bool,
     pub digits: u64,
@@ -26,7 +28,7 @@ pub struct Exact {
 }
 
 // Min or max of a channel, a wrong form, or a number too far from zero.
-#[derive(Drop)]
+#[derive(Clone, Copy)]
 pub enum Limit {
     Is(Exact),
     Form,

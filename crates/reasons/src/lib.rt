@@ -1,5 +1,7 @@
 // What each refusal's number means, as text.
 // put_reason gives, for any number and any room, exactly what the definition of specs/ says; a refusal changes no byte.
+#![tactic(auto)]
+
 ghost use Rattle.std.specs.Prelude.{◌≡◌, ◌^◌, ◌≤◌, ◌<◌, length};
 ghost use Rattle.ground.specs.Said.{over};
 ghost use Rattle.model.specs.Refusals.{written_of, FewBytes};

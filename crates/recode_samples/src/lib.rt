@@ -1,5 +1,7 @@
 // Samples of the binary kinds, from the bytes of one kind to those of another, and those that do not fit.
 // Each function gives exactly what the definition of its name says; loops have no branch, so that many samples are done at once.
+#![tactic(auto)]
+
 ghost use Rattle.std.specs.Prelude.{◌≡◌, true, ◌*◌, ◌≤◌, ◌<◌, length};
 ghost use Rattle.words.specs.Words.{word_of, word_bytes};
 ghost use Rattle.words.specs.Signed.{signed_of, unsigned_of};

@@ -1,5 +1,7 @@
 // A configuration written again in a kind: its lines one after the other, each with CR LF.
 // write_config answers for any bytes, any kind and any room exactly as the definition `rewrite_said` says; a refusal changes no byte. Everything is decided in one walk over the lines before the first byte is written in another.
+#![tactic(auto)]
+
 ghost use Rattle.std.specs.Prelude.{◌≡◌, [], ◌∷◌, ◌++◌, ◌+◌, ◌≤◌, length};
 ghost use Rattle.ground.specs.Said.{over};
 ghost use Rattle.model.specs.Refusals.{written_of, FewBytes};

@@ -1,5 +1,7 @@
 // A line of a configuration written again: how long it is, and its bytes.
 // Each function gives exactly what the definition of its name says; the laws of proofs/ say what its fields are, and that writing it again changes nothing.
+#![tactic(auto)]
+
 ghost use Rattle.std.specs.Prelude.{◌≡◌, ◌+◌, ◌^◌, ◌≤◌, ◌<◌, length};
 ghost use Rattle.pieces.specs.Inner.{Put};
 ghost use Rattle.rewrite_lines.specs.Lines.{is_number, fields_text, line_text};
@@ -8,7 +10,7 @@ ghost use Rattle.rewrite_lines.specs.Inner.{is_left_out, next_field};
 use model::Kind;
 
 // What is done with a line: it stays, or its numbers lose their leading spaces, or it becomes the kind's word.
-#[derive(Drop)]
+#[derive(Clone, Copy)]
 pub enum LineSort {
     Kept,
     // A line all of whose fields are numbers or codes.

@@ -1,5 +1,7 @@
 // The lines of a configuration that is written again: how many there are, what is done with each, and where one ends.
 // Each function gives exactly what the definition of its name says, on any configuration and any bytes.
+#![tactic(auto)]
+
 ghost use Rattle.std.specs.Prelude.{◌≡◌, ◌^◌, ◌≤◌, max, length, get_or};
 ghost use Rattle.rewrite_lines.specs.declared.LineSort.TheVariants.{Kept};
 ghost use Rattle.rewrite_sorts.specs.Sorts.{end_sorts, last_sorts, rate_sorts, channel_sorts, sorts};
@@ -11,7 +13,7 @@ use rewrite_lines::LineSort;
 use text::Scanned;
 
 // A line that was found: its length, and what it takes with its end.
-#[derive(Drop)]
+#[derive(Clone, Copy)]
 pub struct Cut {
     pub len: usize,
     pub taken: usize,

@@ -1,5 +1,7 @@
 // The bytes of a row of any kind: how many, and written.
 // Each function gives exactly what the definition of its name says; law `length-bytes` says that the length is that of the bytes.
+#![tactic(auto)]
+
 ghost use Rattle.std.specs.Prelude.{◌≡◌, ◌≤◌, length};
 ghost use Rattle.model.specs.Layouts.{Sized};
 ghost use Rattle.model.specs.Rows.{misfit};

@@ -1,5 +1,7 @@
 // A row as places, whole numbers of 64 bits, as the exported calls show and take it; a missing sample is a number that is no sample of any kind.
 // Each function gives exactly what the definition of its name says; the laws of proofs/ say that a row is read back from the places that show it.
+#![tactic(auto)]
+
 ghost use Rattle.std.specs.Prelude.{◌≡◌, false, ◌∷◌, ◌+◌, ◌≤◌, ◌<◌, ◌^◌, pos, length, get_or};
 ghost use Rattle.std.specs.Int.Signed.{mag, lt_z};
 ghost use Rattle.ground.specs.Tables.{tab, padded};

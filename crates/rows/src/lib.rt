@@ -1,5 +1,7 @@
 // A walk over a data file of any kind, row by row: what stands at a row, and how many bytes it takes.
 // Each function gives exactly what the definition of its name says; the laws of proofs/ say that the walk's verdict is the file's, and its rows the file's rows.
+#![tactic(auto)]
+
 ghost use Rattle.std.specs.Prelude.{◌≡◌, ◌≤◌, length};
 ghost use Rattle.model.specs.Layouts.{Sized};
 ghost use Rattle.model.specs.Refusals.{answer_of};

@@ -1,5 +1,7 @@
 // The exported calls, on plain numbers and lent slices: what C and Rust link.
 // Each hands on to the call of its subject (crates calls_config, calls_data, calls_change, calls_rewrite, calls_reason), and promises what that promises.
+#![tactic(auto)]
+
 ghost use Rattle.std.specs.Prelude.{◌≡◌, length};
 ghost use Rattle.ground.specs.Said.{over};
 ghost use Rattle.reasons.specs.Reasons.{reason_said};

@@ -24,4 +24,4 @@ returns c =
     let g = c.put_time in
     let lp = ap length f.ensures ∙ sym k.ensures in
     let lq = ap length g.ensures in
-    halves d f.new.d g.new.d.0 k.result (length d) lp (omega (arith, lq, c.requires, k.ensures)) refl ∙ rw (f.ensures, g.ensures)
+    halves d f.new.d g.new.d k.result (length d) lp (omega (arith, lq, c.requires, k.ensures)) refl ∙ rw (f.ensures, g.ensures)

@@ -21,7 +21,7 @@ long c = search rules
 
 -- the head ends within the slice, and the channels where it does
 room : (c : After-head_length-mid)
-    → c.head_length-mid.result + (samples_length s.layout s.row.samples s.layout.analogs + 2 * s.layout.statuses) ≡ length c.d-1.now
+    → c.head_length-mid.result + (samples_length c.args.layout c.args.row.samples c.args.layout.analogs + 2 * c.args.layout.statuses) ≡ length c.args.d.now
 room c = rw c.head_length-mid.ensures (sym (c.requires.1 ∙ length-line c.args.layout c.args.n c.args.row))
 
 front : (c : After-head_length-mid) → length (take c.head_length-mid.result c.args.d.now) ≡ c.head_length-mid.result
@@ -50,7 +50,7 @@ put_channels-requires c =
     let lp = f.auto.1.1.0 ∙ front (goal.at.put_channels-requires c).After-head_length-mid in
     let w = wide (goal.at.put_channels-requires c).Start in
     let v = long (goal.at.put_channels-requires c).Start in
-    record { analogs_in_bounds = (omega (arith, c.requires.0.analogs), omega (arith, c.requires.0.statuses)); d_len = half_length c.args.d.now f.new.d.1.0 k (length c.args.d.now) lp (omega arith) (omega arith) ∙ omega arith }
+    record { analogs_in_bounds = (omega (arith, c.requires.0.analogs), omega (arith, c.requires.0.statuses)); d_len = half_length c.args.d.now f.new.d k (length c.args.d.now) lp (omega arith) (omega arith) ∙ omega arith }
 
 pub returns : goal.returns
 unfolding line_of
@@ -60,8 +60,8 @@ returns c =
     let g = c.put_channels in
     let k = c.head_length-mid.result in
     let r = room (goal.at.returns c).After-head_length-mid in
-    let p = f.new.d.1.0 in
-    let q = g.new.d.1.1.0 in
+    let p = f.new.d in
+    let q = g.new.d in
     let lp : length p ≡ k = f.auto.1.1.0 ∙ front (goal.at.returns c).After-head_length-mid in
     let lq : length q ≡ length d - k = g.auto.1.1.1.0 ∙ half_length d p k (length d) lp (omega arith) (omega arith) in
     halves d p q k (length d) lp (omega arith) refl ∙ rw (f.ensures, g.ensures)

@@ -50,18 +50,18 @@ tested-after-slice_known-then-is_missing-1 c = sym (c.is_missing.ensures ∙ ap 
 none-after-slice_known-then-is_missing-1 : (c : After-slice_known-then-is_missing-1) → sample_chars c.args.layout c.args.z ≡ missing_chars c.args.layout
 none-after-slice_known-then-is_missing-1 c = chars-missing c.args.layout c.args.z (tested-after-slice_known-then-is_missing-1 c ∙ c.if-is_missing.true)
 
-filled-missing : (c : After-slice_known-then-is_missing-1) → c.put_missing.new.d.0 ≡ sample_chars (missing-from c).args.layout (missing-from c).args.z
+filled-missing : (c : After-slice_known-then-is_missing-1) → c.put_missing.new.d ≡ sample_chars (missing-from c).args.layout (missing-from c).args.z
 filled-missing c = c.put_missing.ensures ∙ sym (none-after-slice_known-then-is_missing-1 c)
 
 pub shape_of-d-then-is_missing : goal.shape_of-d-then-is_missing
 shape_of-d-then-is_missing c =
     let s = missing-from c in
-    rw (put_first s.args.d.now c.put_missing.new.d.0 44 (omega (arith, s.pre)), filled-missing c) (omega (arith, s.pre))
+    rw (put_first s.args.d.now c.put_missing.new.d 44 (omega (arith, s.pre)), filled-missing c) (omega (arith, s.pre))
 
 pub returns-then-is_missing : goal.returns-then-is_missing
 returns-then-is_missing c =
     let s = missing-from c in
-    put_first s.args.d.now c.put_missing.new.d.0 44 (omega (arith, s.pre)) ∙ rw (filled-missing c)
+    put_first s.args.d.now c.put_missing.new.d 44 (omega (arith, s.pre)) ∙ rw (filled-missing c)
 
 pub slice_bounds-put_plain-count : goal.slice_bounds-put_plain-count
 slice_bounds-put_plain-count c = simp length-set (omega arith)

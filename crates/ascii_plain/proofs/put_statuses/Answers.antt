@@ -20,7 +20,7 @@ pub loop-i-preserved : goal.loop-i-preserved
 loop-i-preserved c =
     let p = c.loop-i in
     let put = c.put_status in
-    let t = cat-turn (status_text c.args.s.now) 2 (λ i. refl) c.args.d.now p.d put.new.d.0 p.i p.invariant.1 p.invariant.2 (omega arith) put.ensures in
+    let t = cat-turn (status_text c.args.s.now) 2 (λ i. refl) c.args.d.now p.d put.new.d p.i p.invariant.1 p.invariant.2 (omega arith) put.ensures in
     (omega arith, t.0, t.1)
 
 pub shape_of-d : goal.shape_of-d

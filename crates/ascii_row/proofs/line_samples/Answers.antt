@@ -17,5 +17,5 @@ unfolding row_of
 returns c =
     let layout = c.args.layout in
     let read = c.read_samples in
-    padded-fill layout.analogs 96 (pos 0) c.requires.analogs (field_sample layout c.after_fields-fields.result.now) read.new.d.1.0 read.ensures
+    padded-fill layout.analogs 96 (pos 0) c.requires.analogs (field_sample layout c.after_fields-fields.result.now) read.new.d read.ensures
     ∙ ap (λ (t : List ℕ). padded (field_sample layout t) layout.analogs 96 (pos 0)) c.after_fields-fields.ensures

@@ -17,9 +17,8 @@ kept c = search rules
 pub narrowed-requires : goal.narrowed-requires
 narrowed-requires c =
     let l = c.args.layout in
-    let z = c.in-Is.z in
-    let told = sample-told l c.args.field.now z (sym c.read_sample.ensures ∙ c.in-Is.is) in
-    rw (kept c) (fits-small l z (told-fits l c.args.field.now z told))
+    let told = sample-told l c.args.field.now c.in-Is.z (sym c.read_sample.ensures ∙ c.in-Is.is) in
+    rw (kept c) (fits-small l c.in-Is.z (told-fits l c.args.field.now c.in-Is.z told))
 
 pub returns-in-Is : goal.returns-in-Is
 unfolding sample_in

@@ -11,4 +11,4 @@ slice_bounds-read_statuses-end c = sym (front_length c.args.d 256 false c.requir
 pub returns : goal.returns
 returns c =
     let read = c.read_statuses in
-    padded-fill c.args.d 256 false c.requires (field_status c.args.fields.now) read.new.d.0 read.ensures
+    padded-fill c.args.d 256 false c.requires (field_status c.args.fields.now) read.new.d read.ensures

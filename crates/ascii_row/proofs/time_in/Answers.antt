@@ -10,8 +10,7 @@ enum_known-v c = search rules
 
 pub overflow_cast-result : goal.overflow_cast-result
 overflow_cast-result c =
-    let v = c.v-1.given in
-    record { fits = (timestamp-told c.args.field.now v.0.0 (sym c.read_timestamp.ensures ∙ v.1)).1 }
+    record { fits = (timestamp-told c.args.field.now c.in-Is.v (sym c.read_timestamp.ensures ∙ c.in-Is.is)).1 }
 
 pub returns-in-Is : goal.returns-in-Is
 unfolding time_in

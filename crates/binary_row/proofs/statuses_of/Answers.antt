@@ -18,4 +18,4 @@ unpack_words-requires c =
 pub returns : goal.returns
 returns c =
     let f = c.unpack_words in
-    padded-fill c.args.d 256 false c.requires.0 (word_status c.args.b.now) f.new.d.0 f.ensures
+    padded-fill c.args.d 256 false c.requires.0 (word_status c.args.b.now) f.new.d f.ensures

@@ -28,9 +28,9 @@ loop-j-preserved c =
     let b : f ≤ t = omega arith in
     let k : t ≤ length p.d = omega arith in
     let m : min f n ≡ f = omega arith in
-    let y : c.unpack_word.new.d.0 ≡ tab (λ i. word_status c.args.b.now (f + i)) (t - f)
+    let y : c.unpack_word.new.d ≡ tab (λ i. word_status c.args.b.now (f + i)) (t - f)
     = c.unpack_word.ensures ∙ rw (length_part f t p.d k, c.word_of-word.ensures) (word-statuses c.args.b.now p.j (t - f) (omega arith)) in
-    let q = tab-turn (word_status c.args.b.now) c.args.d.now p.d c.unpack_word.new.d.0 f t p.invariant.1 (rw m at p.invariant.2) b k y in
+    let q = tab-turn (word_status c.args.b.now) c.args.d.now p.d c.unpack_word.new.d f t p.invariant.1 (rw m at p.invariant.2) b k y in
     let e : min ((p.j + 1) * 16) n ≡ t = omega arith in
     (omega arith, q.0, rw e q.1)
 

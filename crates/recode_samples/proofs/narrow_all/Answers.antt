@@ -23,7 +23,7 @@ loop-i-preserved c =
     let put = c.narrow in
     let t =
     cat-turn (λ j. recoded Binary32 Binary (bytes_at Binary32 c.args.b.now j)) 2 (λ j. length-recoded Binary32 Binary _)
-    c.args.d.now p.d put.new.d.0 p.i p.invariant.1 p.invariant.2 (omega arith) put.ensures in
+    c.args.d.now p.d put.new.d p.i p.invariant.1 p.invariant.2 (omega arith) put.ensures in
     (omega arith, t.0, t.1)
 
 pub returns : goal.returns

@@ -13,7 +13,7 @@ loop-i-preserved c =
     let put = c.widen in
     let t =
     cat-turn (λ j. recoded Binary Binary32 (bytes_at Binary c.args.b.now j)) 4 (λ j. length-recoded Binary Binary32 _)
-    c.args.d.now p.d put.new.d.0 p.i p.invariant.1 p.invariant.2 (omega arith) put.ensures in
+    c.args.d.now p.d put.new.d p.i p.invariant.1 p.invariant.2 (omega arith) put.ensures in
     (omega arith, t.0, t.1)
 
 pub returns : goal.returns

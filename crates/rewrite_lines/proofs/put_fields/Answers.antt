@@ -11,6 +11,8 @@ use Rattle.pieces.proofs.Laws.{put-none, put_as}
 use Rattle.rewrite_lines.specs.Lines.{fields_text}
 use Rattle.rewrite_lines.specs.Inner.{next_field, walked}
 use Rattle.rewrite_lines.proofs.WalkLaws.{walk-out, walk-in, next_small, walked-fields, put_byte}
+use mathlib.Core.Path.{ap}
+use mathlib.Core.Bool.{not}
 use Rattle.rewrite_lines.proofs.put_fields.Goals as goal
 use Rattle.rewrite_lines.proofs.put_fields.Goals.{Then-not-is_left_out}
 
@@ -24,7 +26,7 @@ stays : (c : Then-not-is_left_out)
     p.invariant.3.0 ++ b ∷ walked c.args.sort (next_field p.field b) (eqb b 44) (drop (p.at + 1) c.args.line.now) ≡ fields_text c.args.sort c.args.line.now
 stays c =
     let p = c.loop-at in
-    rw (walk-in c.args.sort p.field p.leads c.args.line.now p.at c.loop-at-test.true c.is_left_out.ensures c.if-not-is_left_out.true) at p.invariant.3.2
+    rw (walk-in c.args.sort p.field p.leads c.args.line.now p.at c.loop-at-test.true c.is_left_out.ensures (ap not c.if-not-is_left_out.true)) at p.invariant.3.2
 
 pub bounds-out-to : goal.bounds-out-to
 bounds-out-to c = omega (arith, c.loop-at.invariant.3.1.end, rw length-append at (ap length (stays (goal.at.bounds-out-to c).Then-not-is_left_out)))
@@ -45,7 +47,7 @@ loop-at-preserved-then-not-is_left_out c =
 pub loop-at-preserved : goal.loop-at-preserved
 loop-at-preserved c =
     let p = c.loop-at in
-    let e = walk-out c.args.sort p.field p.leads c.args.line.now p.at c.loop-at-test.true c.is_left_out.ensures c.if-not-is_left_out.false in
+    let e = walk-out c.args.sort p.field p.leads c.args.line.now p.at c.loop-at-test.true c.is_left_out.ensures (ap not c.if-not-is_left_out.false) in
     (omega arith, omega arith, p.invariant.2, (p.invariant.3.0, p.invariant.3.1, rw (← e) p.invariant.3.2))
 
 pub returns : goal.returns

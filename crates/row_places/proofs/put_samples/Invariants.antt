@@ -7,7 +7,7 @@ use Rattle.row_places.specs.Rows.{sample_place}
 use Rattle.row_places.proofs.put_samples.Given as goal
 
 abbrev pub invariant-loop-i : goal.invariant-loop-i
-invariant-loop-i l = Filled (λ l.i. sample_place (get_or l.zs l.i (pos 0))) l.initial.d l.i l.d
+invariant-loop-i l = Filled (λ i'. sample_place (get_or l.zs i' (pos 0))) l.initial.d l.i l.d
 
 abbrev pub decreases-loop-i : goal.decreases-loop-i
 decreases-loop-i l = length l.d - l.i

@@ -7,7 +7,7 @@ use lib.ListN.{length, get_or}
 use Rattle.row_places.proofs.put_statuses.Given as goal
 
 abbrev pub invariant-loop-i : goal.invariant-loop-i
-invariant-loop-i l = Filled (λ l.i. bool_place (get_or l.s l.i false)) l.initial.d l.i l.d
+invariant-loop-i l = Filled (λ i'. bool_place (get_or l.s i' false)) l.initial.d l.i l.d
 
 abbrev pub decreases-loop-i : goal.decreases-loop-i
 decreases-loop-i l = length l.d - l.i

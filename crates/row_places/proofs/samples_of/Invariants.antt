@@ -8,7 +8,7 @@ use Rattle.row_places.specs.Rows.{place_sample}
 use Rattle.row_places.proofs.samples_of.Given as goal
 
 abbrev pub invariant-loop-i : goal.invariant-loop-i
-invariant-loop-i l = (l.i ≤ length l.zs) × (l.out ≡ padded (λ l.i. place_sample (get_or l.zs l.i (pos 0))) l.i 96 (pos 0))
+invariant-loop-i l = (l.i ≤ length l.zs) × (l.out ≡ padded (λ i'. place_sample (get_or l.zs i' (pos 0))) l.i 96 (pos 0))
 
 abbrev pub decreases-loop-i : goal.decreases-loop-i
 decreases-loop-i l = length l.zs - l.i

@@ -9,7 +9,7 @@ use Rattle.ground.specs.Tables.{padded}
 use Rattle.row_places.proofs.statuses_of.Given as goal
 
 abbrev pub invariant-loop-i : goal.invariant-loop-i
-invariant-loop-i l = (l.i ≤ length l.zs) × (l.out ≡ padded (λ l.i. lt_z (pos 0) (get_or l.zs l.i (pos 0))) l.i 256 false)
+invariant-loop-i l = (l.i ≤ length l.zs) × (l.out ≡ padded (λ i'. lt_z (pos 0) (get_or l.zs i' (pos 0))) l.i 256 false)
 
 abbrev pub decreases-loop-i : goal.decreases-loop-i
 decreases-loop-i l = length l.zs - l.i

@@ -26,6 +26,6 @@ returns c =
     let m = length d - 2 * c.args.layout.statuses in
     let p = f.new.d in
     let q = g.new.d in
-    let lp : length p ≡ m = f.auto.1.1.0 ∙ front (goal.at.returns c).Start in
-    let lq : length q ≡ length d - m = g.auto.1.1.0 ∙ half_length d p m (length d) lp (omega arith) (omega arith) in
+    let lp : length p ≡ m = f.auto.d ∙ front (goal.at.returns c).Start in
+    let lq : length q ≡ length d - m = g.auto.d ∙ half_length d p m (length d) lp (omega arith) (omega arith) in
     halves d p q m (length d) lp (omega arith) refl ∙ rw (f.ensures, g.ensures)

@@ -47,7 +47,7 @@ put_channels-requires c =
     let f = c.put_head in
     let k = c.head_length-mid.result in
     let r = room (goal.at.put_channels-requires c).After-head_length-mid in
-    let lp = f.auto.1.1.0 ∙ front (goal.at.put_channels-requires c).After-head_length-mid in
+    let lp = f.auto.d ∙ front (goal.at.put_channels-requires c).After-head_length-mid in
     let w = wide (goal.at.put_channels-requires c).Start in
     let v = long (goal.at.put_channels-requires c).Start in
     record { analogs_in_bounds = (omega (arith, c.requires.0.analogs), omega (arith, c.requires.0.statuses)); d_len = half_length c.args.d.now f.new.d k (length c.args.d.now) lp (omega arith) (omega arith) ∙ omega arith }
@@ -62,6 +62,6 @@ returns c =
     let r = room (goal.at.returns c).After-head_length-mid in
     let p = f.new.d in
     let q = g.new.d in
-    let lp : length p ≡ k = f.auto.1.1.0 ∙ front (goal.at.returns c).After-head_length-mid in
-    let lq : length q ≡ length d - k = g.auto.1.1.1.0 ∙ half_length d p k (length d) lp (omega arith) (omega arith) in
+    let lp : length p ≡ k = f.auto.d ∙ front (goal.at.returns c).After-head_length-mid in
+    let lq : length q ≡ length d - k = g.auto.d ∙ half_length d p k (length d) lp (omega arith) (omega arith) in
     halves d p q k (length d) lp (omega arith) refl ∙ rw (f.ensures, g.ensures)

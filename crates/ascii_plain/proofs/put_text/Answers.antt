@@ -31,7 +31,7 @@ put_end-requires c =
     let d = c.args.d.now in
     let f = c.put_line in
     let r = room (goal.at.put_end-requires c).Start in
-    half_length d f.new.d (length d - 2) (length d) (f.auto.1.1.1.0 ∙ front (goal.at.put_end-requires c).Start) (omega arith) (omega arith) ∙ omega arith
+    half_length d f.new.d (length d - 2) (length d) (f.auto.d ∙ front (goal.at.put_end-requires c).Start) (omega arith) (omega arith) ∙ omega arith
 
 pub returns : goal.returns
 unfolding text_of
@@ -42,4 +42,4 @@ returns c =
     let r = room (goal.at.returns c).Start in
     let p = f.new.d in
     let lq : length g.new.d ≡ 2 = ap length g.ensures in
-    halves d p g.new.d (length d - 2) (length d) (f.auto.1.1.1.0 ∙ front (goal.at.returns c).Start) (omega arith) refl ∙ rw (f.ensures, g.ensures)
+    halves d p g.new.d (length d - 2) (length d) (f.auto.d ∙ front (goal.at.returns c).Start) (omega arith) refl ∙ rw (f.ensures, g.ensures)

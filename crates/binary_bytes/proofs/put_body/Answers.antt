@@ -38,7 +38,7 @@ pub put_words-requires : goal.put_words-requires
 put_words-requires c =
     let f = c.put_samples in
     let r = room (goal.at.put_words-requires c).After-width in
-    let k = f.auto.1.1.0 ∙ front (goal.at.put_words-requires c).After-width in (
+    let k = f.auto.d ∙ front (goal.at.put_words-requires c).After-width in (
       c.requires.statuses_bound.0,
       c.requires.statuses_bound.1,
       half_length c.args.d.now f.new.d (c.args.layout.analogs * c.width.result) (length c.args.d.now) k (omega arith) (omega arith) ∙ omega arith,
@@ -53,6 +53,6 @@ returns c =
     let r = room (goal.at.returns c).After-width in
     let p = f.new.d in
     let q = g.new.d in
-    let lp : length p ≡ m = f.auto.1.1.0 ∙ front (goal.at.returns c).After-width in
-    let lq : length q ≡ length d - m = g.auto.1.1.0 ∙ half_length d p m (length d) lp (omega arith) (omega arith) in
+    let lp : length p ≡ m = f.auto.d ∙ front (goal.at.returns c).After-width in
+    let lq : length q ≡ length d - m = g.auto.d ∙ half_length d p m (length d) lp (omega arith) (omega arith) in
     halves d p q m (length d) lp (omega arith) refl ∙ rw (f.ensures, g.ensures)

@@ -40,7 +40,7 @@ pub put_body-requires : goal.put_body-requires
 put_body-requires c =
     let f = c.put_head in
     let e = sizes c.args.layout in
-    let k = f.auto.1.1.0 ∙ head (goal.at.put_body-requires c).Start in
+    let k = f.auto.d ∙ head (goal.at.put_body-requires c).Start in
     let w = wide (goal.at.put_body-requires c).Start in
     let v = long (goal.at.put_body-requires c).Start in record { analogs_in_bounds = (omega (arith, c.requires.0.analogs), c.requires.2); statuses_bound = (c.requires.0.statuses, omega (arith, c.requires.0.statuses), half_length c.args.d.now f.new.d 8 (length c.args.d.now) k (omega arith) (omega arith) ∙ omega arith) }
 
@@ -53,6 +53,6 @@ returns c =
     let e = sizes c.args.layout in
     let p = f.new.d in
     let q = g.new.d in
-    let lp : length p ≡ 8 = f.auto.1.1.0 ∙ head (goal.at.returns c).Start in
-    let lq : length q ≡ length d - 8 = g.auto.1.1.1.0 ∙ half_length d p 8 (length d) lp (omega arith) (omega arith) in
+    let lp : length p ≡ 8 = f.auto.d ∙ head (goal.at.returns c).Start in
+    let lq : length q ≡ length d - 8 = g.auto.d ∙ half_length d p 8 (length d) lp (omega arith) (omega arith) in
     halves d p q 8 (length d) lp (omega arith) refl ∙ rw (f.ensures, g.ensures)

@@ -20,7 +20,7 @@ second : (c : Then-fits_pattern-2) → fits_pattern (quoted "ddhdd") c.args.s.no
 second c = sym c.fits_pattern-2.ensures ∙ c.if-fits_pattern-2.true
 
 pub digits_at-requires : goal.digits_at-requires
-digits_at-requires c = omega (arith, fits-length (quoted "dhdd") _ (first c))
+digits_at-requires c = omega (arith, fits-length (quoted "dhdd") _ (first (goal.at.digits_at-requires c).Then-fits_pattern))
 
 pub digits_at-requires-then-fits_pattern : goal.digits_at-requires-then-fits_pattern
 digits_at-requires-then-fits_pattern c = omega (arith, fits-length (quoted "dhdd") _ (first (goal.at.digits_at-requires-then-fits_pattern c).Then-fits_pattern))
@@ -30,7 +30,7 @@ unfolding hours_and_minutes
 returns-then-fits_pattern c = rw (c.minutes_of.ensures, c.digits_at.ensures, c.digits_at-then-fits_pattern.ensures, first (goal.at.returns-then-fits_pattern c).Then-fits_pattern)
 
 pub digits_at-requires-then-fits_pattern-2 : goal.digits_at-requires-then-fits_pattern-2
-digits_at-requires-then-fits_pattern-2 c = omega (arith, fits-length (quoted "ddhdd") _ (second c))
+digits_at-requires-then-fits_pattern-2 c = omega (arith, fits-length (quoted "ddhdd") _ (second (goal.at.digits_at-requires-then-fits_pattern-2 c).Then-fits_pattern-2))
 
 pub digits_at-requires-then-fits_pattern-2-2 : goal.digits_at-requires-then-fits_pattern-2-2
 digits_at-requires-then-fits_pattern-2-2 c = omega (arith, fits-length (quoted "ddhdd") _ (second (goal.at.digits_at-requires-then-fits_pattern-2-2 c).Then-fits_pattern-2))

@@ -20,14 +20,14 @@ second : (c : Then-fits_pattern-2) → fits_pattern (quoted "dd") c.args.s.now �
 second c = sym c.fits_pattern-2.ensures ∙ c.if-fits_pattern-2.true
 
 pub digits_at-requires : goal.digits_at-requires
-digits_at-requires c = omega (arith, fits-length (quoted "d") _ (first c))
+digits_at-requires c = omega (arith, fits-length (quoted "d") _ (first (goal.at.digits_at-requires c).Then-fits_pattern))
 
 pub returns-then-fits_pattern : goal.returns-then-fits_pattern
 unfolding hours_of
 returns-then-fits_pattern c = rw (c.minutes_of.ensures, c.digits_at.ensures, first (goal.at.returns-then-fits_pattern c).Then-fits_pattern)
 
 pub digits_at-requires-then-fits_pattern-2 : goal.digits_at-requires-then-fits_pattern-2
-digits_at-requires-then-fits_pattern-2 c = omega (arith, fits-length (quoted "dd") _ (second c))
+digits_at-requires-then-fits_pattern-2 c = omega (arith, fits-length (quoted "dd") _ (second (goal.at.digits_at-requires-then-fits_pattern-2 c).Then-fits_pattern-2))
 
 pub returns-then-fits_pattern-2 : goal.returns-then-fits_pattern-2
 unfolding hours_of

@@ -19,7 +19,7 @@ long : (c : Else-not-length_in) → (2 ≤ length c.args.field.now) × (length c
 long c = length-bounds 2 7 c.args.field.now (sym c.length_in.ensures ∙ c.if-not-length_in.false)
 
 pub overflow_sub-n : goal.overflow_sub-n
-overflow_sub-n c = omega (arith, long c)
+overflow_sub-n c = omega (arith, long (goal.at.overflow_sub-n c).Else-not-length_in)
 
 pub bounds-field-n : goal.bounds-field-n
 bounds-field-n c = omega (arith, long (goal.at.bounds-field-n c).Else-not-length_in)

@@ -36,7 +36,7 @@ pub put_statuses-requires : goal.put_statuses-requires
 put_statuses-requires c =
     let d = c.args.d.now in
     let first = c.put_samples in
-    let half = half_length d first.new.d c.args.layout.analogs (length d) (first.auto.1.0 ∙ front (goal.at.put_statuses-requires c).Start) (omega arith) (omega arith) in
+    let half = half_length d first.new.d c.args.layout.analogs (length d) (first.auto.d ∙ front (goal.at.put_statuses-requires c).Start) (omega arith) (omega arith) in
     le_trans (le_of_eq half) (omega (arith, wide-statuses (goal.at.put_statuses-requires c).Start, c.requires.0.statuses))
 
 pub returns : goal.returns
@@ -48,8 +48,8 @@ returns c =
     let second = c.put_statuses in
     let p = first.new.d in
     let q = second.new.d in
-    let lp : length p ≡ a = first.auto.1.0 ∙ front (goal.at.returns c).Start in
+    let lp : length p ≡ a = first.auto.d ∙ front (goal.at.returns c).Start in
     let half = half_length d p a (length d) lp (omega arith) (omega arith) in
     let back : length (part a (length d) (p ++ drop a d)) ≡ c.args.layout.statuses = half ∙ omega arith in
-    let lq : length q ≡ length d - a = second.auto.1.0 ∙ half in
+    let lq : length q ≡ length d - a = second.auto.d ∙ half in
     ap (λ xs. pos c.args.row.time ∷ xs) (halves d p q a (length d) lp (omega arith) refl ∙ rw (first.ensures, second.ensures, front (goal.at.returns c).Start, back))

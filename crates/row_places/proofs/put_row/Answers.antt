@@ -22,7 +22,7 @@ put_channels-requires c = (c.requires.0, rw (rest, length-drop, length-set) (ome
 pub shape_of-d : goal.shape_of-d
 shape_of-d c =
     let p = c.put_channels.new.d in
-    let k : length p ≡ c.args.layout.analogs + c.args.layout.statuses = c.put_channels.auto.1.1.0 ∙ rw (rest, length-drop, length-set) (omega arith) in
+    let k : length p ≡ c.args.layout.analogs + c.args.layout.statuses = c.put_channels.auto.d ∙ rw (rest, length-drop, length-set) (omega arith) in
     rw (put_first c.args.d.now p (to_z w64 (of_z w64 c.plus.result)) (omega arith)) (omega arith)
 
 pub returns : goal.returns

@@ -21,12 +21,12 @@ apart c =
 apart_fits : (c : Start) → SFits w64 (apart c)
 apart_fits c =
     let p = c.requires in
-    seconds-fit c.args.first-date c.args.first-time p.0 p.1 c.args.trigger-date c.args.trigger-time p.2 p.3
+    seconds-fit c.args.first_date c.args.first_time p.0 p.1 c.args.trigger_date c.args.trigger_time p.2 p.3
 
 less-fits : (c : Start) → SFits w64 (apart c -ℤ pos 1)
 less-fits c =
     let p = c.requires in
-    less-fit c.args.first-date c.args.first-time p.0 p.1 c.args.trigger-date c.args.trigger-time p.2 p.3
+    less-fit c.args.first_date c.args.first_time p.0 p.1 c.args.trigger_date c.args.trigger_time p.2 p.3
 
 -- it is what the machine takes from what
 told : (c : After-second_number-2)
@@ -49,11 +49,11 @@ overflow_sub-less c =
 
 pub overflow_add-nanoseconds : goal.overflow_add-nanoseconds
 overflow_add-nanoseconds c =
-    omega (arith, time-bounds c.args.trigger-time c.requires.3)
+    omega (arith, time-bounds c.args.trigger_time c.requires.3)
 
 pub overflow_sub-nanoseconds : goal.overflow_sub-nanoseconds
 overflow_sub-nanoseconds c =
-    omega (arith, time-bounds c.args.first-time c.requires.1)
+    omega (arith, time-bounds c.args.first_time c.requires.1)
 
 pub returns : goal.returns
 unfolding pre_trigger span_of

@@ -15,6 +15,6 @@ pub returns-in-Binary : goal.returns-in-Binary
 unfolding length_by
 returns-in-Binary c =
     (
-      rw (c.row_size.ensures, binary-arm c.args.layout.kind (plain.length_by c.args.layout c.args.n c.args.time c.args.samples.now) (row_size c.args.layout) c.in-Binary-own.keys2),
+      rw (c.row_size.ensures, binary-arm c.args.layout.kind (plain.length_by c.args.layout c.args.n c.args.time c.args.samples.now) (row_size c.args.layout) c.in-Binary.is),
       rw c.row_size.ensures (omega (arith, size-le c.args.layout c.requires.0)),
     )

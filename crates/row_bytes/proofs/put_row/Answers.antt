@@ -16,7 +16,7 @@ put_text-requires c = (c.requires.0, c.requires.1 ∙ rw c.in-Ascii.is)
 pub put_row-requires : goal.put_row-requires
 unfolding length_of
 put_row-requires c =
-    (c.requires.0, c.requires.1 ∙ binary-arm c.args.layout.kind (text_length c.args.layout c.args.n c.args.row) (row_size c.args.layout) c.in-Binary-own.keys2, c.requires.2)
+    (c.requires.0, c.requires.1 ∙ binary-arm c.args.layout.kind (text_length c.args.layout c.args.n c.args.row) (row_size c.args.layout) c.in-Binary.is, c.requires.2)
 
 pub returns-in-Ascii : goal.returns-in-Ascii
 unfolding bytes_of
@@ -25,4 +25,4 @@ returns-in-Ascii c = c.put_text.ensures ∙ rw c.in-Ascii.is
 pub returns-in-Binary : goal.returns-in-Binary
 unfolding bytes_of
 returns-in-Binary c =
-    c.put_row.ensures ∙ sym (binary-arm c.args.layout.kind (text_of c.args.layout c.args.n c.args.row) (binary_of c.args.layout c.args.n c.args.row) c.in-Binary-own.keys2)
+    c.put_row.ensures ∙ sym (binary-arm c.args.layout.kind (text_of c.args.layout c.args.n c.args.row) (binary_of c.args.layout c.args.n c.args.row) c.in-Binary.is)

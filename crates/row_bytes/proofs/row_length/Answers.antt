@@ -12,4 +12,4 @@ returns-in-Ascii c = rw (c.text_length.ensures, c.in-Ascii.is)
 pub returns-in-Binary : goal.returns-in-Binary
 unfolding length_of
 returns-in-Binary c =
-    rw (c.row_size.ensures, binary-arm c.args.layout.kind (text_length c.args.layout c.args.n c.args.row) (row_size c.args.layout) c.in-Binary-own.keys2)
+    rw (c.row_size.ensures, binary-arm c.args.layout.kind (text_length c.args.layout c.args.n c.args.row) (row_size c.args.layout) c.in-Binary.is)

@@ -23,14 +23,14 @@ slice_bounds-check_line-end c = sym (length-take-le _ _ (omega (arith, (line (go
 pub returns-in-Yes : goal.returns-in-Yes
 unfolding take_row
 returns-in-Yes c =
-    let told = yes-told (check_line c.args.layout c.args.n (take c.len-1.given.0.0 c.args.rest.now)) (sym c.check_line.ensures ∙ c.in-Yes.is) in
-    rw (← c.scan_line.ensures, c.len-1.given.1, told, (line (goal.at.returns-in-Yes c).In-Line).0)
+    let told = yes-told (check_line c.args.layout c.args.n (take c.in-Line.len c.args.rest.now)) (sym c.check_line.ensures ∙ c.in-Yes.is) in
+    rw (← c.scan_line.ensures, c.in-Line.is, told, (line (goal.at.returns-in-Yes c).In-Line).0)
 
 pub returns-in-No : goal.returns-in-No
 unfolding take_row
 returns-in-No c =
-    let told = no-told (check_line c.args.layout c.args.n (take c.len-1.given.0.0 c.args.rest.now)) c.in-No.refusal (sym c.check_line.ensures ∙ c.in-No.is) in
-    rw (← c.scan_line.ensures, c.len-1.given.1, told)
+    let told = no-told (check_line c.args.layout c.args.n (take c.in-Line.len c.args.rest.now)) c.in-No.refusal (sym c.check_line.ensures ∙ c.in-No.is) in
+    rw (← c.scan_line.ensures, c.in-Line.is, told)
 
 pub returns-in-Ends : goal.returns-in-Ends
 unfolding take_row

@@ -8,12 +8,12 @@ use Rattle.ascii_file.proofs.first_line.Goals as goal
 
 pub slice_bounds-result-end : goal.slice_bounds-result-end
 slice_bounds-result-end c =
-    let f = line-found 1880 c.len-1.given.0.0 c.len-1.given.0.1.0 c.args.rest.now (sym c.scan_line.ensures ∙ c.len-1.given.1) in
+    let f = line-found 1880 c.in-Line.len c.in-Line.taken c.args.rest.now (sym c.scan_line.ensures ∙ c.in-Line.is) in
     sym (length-take-le _ _ (omega (arith, f.0, f.1.within)))
 
 pub returns-in-Line : goal.returns-in-Line
 unfolding first_line
-returns-in-Line c = rw (← c.scan_line.ensures, c.len-1.given.1)
+returns-in-Line c = rw (← c.scan_line.ensures, c.in-Line.is)
 
 pub returns-in-Ends : goal.returns-in-Ends
 unfolding first_line

@@ -7,12 +7,7 @@ use Rattle.model.specs.declared.Edition.{Edition}
 use Rattle.model.specs.declared.Edition.TheVariants.{Y2013, Y1999}
 use Rattle.rewrite_lines.specs.declared.LineSort.TheVariants.{Kept, Numbers}
 use Rattle.rewrite_sorts.specs.Sorts.{end_sorts}
-use borrow.Author.Rules.{rules}
-use Rattle.rewrite_sorts.proofs.end_sort.Statement.{statement}
-use Rattle.rewrite_sorts.proofs.end_sort.Tie as tie
-
-end-lines-requires : tie.Need-end-lines-requires
-end-lines-requires c κs = search rules
+use Rattle.rewrite_sorts.proofs.end_sort.Goals as goal
 
 -- past the last line
 past : (e : Edition) (n : ℕ) → length (end_sorts e) ≤ n → Kept ≡ get_or (end_sorts e) n Kept
@@ -27,14 +22,11 @@ quality : (e : Edition) (n : ℕ) → n < length (end_sorts e) → 1 ≤ n → K
 quality Y2013 n h k = let i : n ≡ 1 = omega arith in rw i
 quality Y1999 n h k = absurd (omega arith)
 
-returns : tie.Need-returns
-returns c = let a = c.before.before.args in past a.edition a.n (rw c.before.end-lines.ensures at c.if1.true)
+pub returns-then-end_lines-n : goal.returns-then-end_lines-n
+returns-then-end_lines-n c = past c.args.edition c.args.n (rw c.end_lines.ensures at c.if-end_lines-n.true)
 
-returns-2 : tie.Need-returns-2
-returns-2 c = let a = c.before.before.before.args in codes a.edition a.n (rw c.before.before.end-lines.ensures at c.before.if1.false) c.if2.true
+pub returns-then-n-lt1 : goal.returns-then-n-lt1
+returns-then-n-lt1 c = codes c.args.edition c.args.n (rw c.end_lines.ensures at c.if-end_lines-n.false) c.if-n-lt1.true
 
-returns-3 : tie.Need-returns-3
-returns-3 c = let a = c.before.before.before.args in quality a.edition a.n (rw c.before.before.end-lines.ensures at c.before.if1.false) c.if2.false
-
-pub end-sort-spec : {M : Type 1} → statement M
-end-sort-spec = tie.close (tie.spec end-lines-requires returns returns-2 returns-3)
+pub returns : goal.returns
+returns c = quality c.args.edition c.args.n (rw c.end_lines.ensures at c.if-end_lines-n.false) c.if-n-lt1.false

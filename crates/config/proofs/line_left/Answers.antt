@@ -1,21 +1,13 @@
 -- `line_left` meets its contract.
 use mathlib.Core.Path.{◌≡◌, refl}
 use mathlib.Core.Bool.{true}
-use mathlib.Core.List.{List, [], ◌∷◌}
-use Prim.Native.Nat.{ℕ}
-use types.Run.{OneOf, miss}
-use denote.Enum.Declared.{tag_of}
 use Rattle.config_rules.specs.declared.Rule.{Rule}
 use Rattle.config_rules.specs.declared.Rule.TheVariants.{Station, Counts, Analog, Status, Frequency, RateCount, Rate, First, Trigger, KindWord, Multiplier, Codes, Quality, Done}
 use Rattle.config.specs.Inner.{line_left}
-use Rattle.config_rules.specs.contracts.Rule.{the_type}
 use Rattle.config.proofs.line_left.Goals as goal
 
 -- every other rule
-abbrev keys : List ℕ
-keys = 0 ∷ 1 ∷ 2 ∷ 3 ∷ 4 ∷ 5 ∷ 6 ∷ 7 ∷ 8 ∷ 9 ∷ 10 ∷ 11 ∷ 12 ∷ []
-
-others : (r : Rule) → OneOf keys (tag_of the_type r) → true ≡ line_left r
+others : (r : Rule) → (r ≡ Done → ⊥) → true ≡ line_left r
 others Station h = refl
 others Counts h = refl
 others (Analog i) h = refl
@@ -29,7 +21,7 @@ others KindWord h = refl
 others Multiplier h = refl
 others Codes h = refl
 others Quality h = refl
-others Done h = absurd (miss keys 13 tt h)
+others Done h = absurd (h refl)
 
 pub returns-in_default : goal.returns-in_default
-returns-in_default c = others c.args.rule c.in_default-own.keys2
+returns-in_default c = others c.args.rule c.in_default.not-Done

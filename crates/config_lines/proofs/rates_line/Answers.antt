@@ -1,10 +1,10 @@
 -- `rates_line` meets its contract.
+use Rattle.std.specs.Prelude.{if◌then◌else◌}
 use borrow.Author.Tests.{eq-eqb, ne_eqb}
 use Rattle.config_lines.specs.Lines.{rates_line}
 use Rattle.line_fields.proofs.ValueLaws.{number_is}
 use mathlib.Core.Path.{◌≡◌}
 use lib.Dec.{eqb}
-use Rattle.ground.specs.Choice.{if◌then◌else◌}
 use Rattle.ground.specs.Said.{says, refuses}
 use Rattle.text.specs.Fields.{field_count}
 use Rattle.fields.specs.Fields.{read_count_in}

@@ -63,11 +63,14 @@ recode_body-requires c =
     let mid = ends.result in
     let e = sizes l in
     let f = sizes (in_kind c.args.new l) in
-    let w : length (part mid (length b) b) ≡ length b - mid = length_part mid (length b) b (omega arith) in record { samples_len = (
+    let w : length (part mid (length b) b) ≡ length b - mid = length_part mid (length b) b (omega arith) in record {
+      samples_len = (
         rw ends.ensures (samples-length l b c.requires.sized.1),
         c.requires.d_len.1,
         λ h. rw ends.ensures (sym (row-narrow l c.args.new b h) ∙ c.requires.sized.3),
-      ); d_len = half_length d p 8 (length d) lp (omega arith) (omega (arith, c.requires.d_len.0)) ∙ omega (arith, ends.ensures, c.requires.sized.1, c.requires.d_len.0) }
+      );
+      d_len = half_length d p 8 (length d) lp (omega arith) (omega (arith, c.requires.d_len.0)) ∙ omega (arith, ends.ensures, c.requires.sized.1, c.requires.d_len.0);
+    }
 
 pub returns : goal.returns
 returns c =

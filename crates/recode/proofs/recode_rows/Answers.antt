@@ -84,12 +84,15 @@ recode_row-requires c =
     let i = p.i in
     let h : i < l.rows = omega arith in
     let old = c.row_size-size.ensures in
-    let at = i * c.row_size-fresh.result in record { sized = (
+    let at = i * c.row_size-fresh.result in record {
+      sized = (
         c.requires.sized.0,
         rw old (row-length l s i (long (goal.at.recode_row-requires c).Start) h),
         rw old (file-there l s c.requires.sized.1 c.requires.sized.0 known i h),
         rw old (c.requires.sized.2 i h),
-      ); d_len = (length_part at (at + c.row_size-fresh.result) p.d (new-room (goal.at.recode_row-requires c).In-loop-i) ∙ omega (arith, size (goal.at.recode_row-requires c).After-row_size-fresh), c.requires.d_len.1) }
+      );
+      d_len = (length_part at (at + c.row_size-fresh.result) p.d (new-room (goal.at.recode_row-requires c).In-loop-i) ∙ omega (arith, size (goal.at.recode_row-requires c).After-row_size-fresh), c.requires.d_len.1);
+    }
 
 pub loop-i-preserved : goal.loop-i-preserved
 unfolding binary_row

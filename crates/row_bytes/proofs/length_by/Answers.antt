@@ -13,8 +13,7 @@ returns-in-Ascii c = (rw (c.length_by.ensures.value, c.in-Ascii.is), c.length_by
 
 pub returns-in-Binary : goal.returns-in-Binary
 unfolding length_by
-returns-in-Binary c =
-    (
-      rw (c.row_size.ensures, binary-arm c.args.layout.kind (plain.length_by c.args.layout c.args.n c.args.time c.args.samples.now) (row_size c.args.layout) c.in-Binary.is),
-      rw c.row_size.ensures (omega (arith, size-le c.args.layout c.requires.0)),
-    )
+returns-in-Binary c = (
+  rw (c.row_size.ensures, binary-arm c.args.layout.kind (plain.length_by c.args.layout c.args.n c.args.time c.args.samples.now) (row_size c.args.layout) c.in-Binary.is),
+  rw c.row_size.ensures (omega (arith, size-le c.args.layout c.requires.0)),
+)

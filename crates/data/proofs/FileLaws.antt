@@ -5,19 +5,16 @@
 --     row-writes, row-trimmed        a row of an accepted file can be written, and has its places past A and D zero
 --     file-back                      an accepted file of a binary kind is the file of its rows
 -- Assumes nothing.
-use mathlib.Core.Path.{◌≡◌, sym, ap, ◌∙◌}
+use mathlib.Core.Path.{◌≡◌, ◌∙◌}
 use mathlib.Core.Bool.{true}
 use mathlib.Core.List.{List, [], append-nil}
 use Prim.Native.Nat.{ℕ, ◌+◌, ◌*◌, ◌^◌, ◌<◌}
 use native.Mathlib.Omega.{arith}
-use lib.IntN.{pos}
-use lib.ListN.{get_or}
 use Rattle.ground.specs.Said.{says}
 use Rattle.ground.specs.Tables.{every}
 use Rattle.ground.proofs.Tables.{cat-ext}
 use Rattle.words.specs.Words.{is_byte}
 use Rattle.words.proofs.WordLaws.{bytes-part, word_of-part-lt}
-use Rattle.model.specs.declared.Kind.{Kind}
 use Rattle.model.specs.declared.Kind.TheVariants.{Ascii}
 use Rattle.model.specs.declared.Layout.{Layout}
 use Rattle.model.specs.declared.Row.{Row}

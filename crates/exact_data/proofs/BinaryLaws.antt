@@ -37,7 +37,7 @@ use Rattle.binary_file.specs.Files.{row_bytes, check_binary, binary_row}
 use Rattle.binary_file.specs.Inner.{binary_file}
 use Rattle.binary_file.proofs.Laws.{row-length, whole}
 use Rattle.binary_file.proofs.FileLaws.{binary-accepted, row-there}
-use Rattle.paper.specs.Data.{row_sample, status_of, low_first, SampleWord, is_on, status_word, BinaryRow, BinaryFile}
+use Rattle.paper.specs.Data.{status_of, low_first, SampleWord, is_on, status_word, BinaryRow, BinaryFile}
 use Rattle.exact_data.proofs.NumberLaws.{low-first, word-exactly, padding-exactly}
 
 -- the bytes of a row

@@ -52,7 +52,7 @@ use Rattle.ascii_file.specs.Files.{scan_row, take_row, is_ending, check_lines, c
 use Rattle.ascii_file.proofs.Laws.{row-takes-told}
 use Rattle.ascii_file.proofs.RoundLaws.{status-back}
 use Rattle.ascii_file.proofs.PlainLaws.{status-again}
-use Rattle.paper.specs.Fields.{CountField, WholeField}
+use Rattle.paper.specs.Fields.{CountField}
 use Rattle.paper.specs.Lines.{ended}
 use Rattle.paper.specs.Data.{status_of, MissingText, SampleField, TextLine, TextEnding, TextFile}
 use Rattle.exact.proofs.CountLaws.{count-exactly}

@@ -29,7 +29,7 @@ use Rattle.ground.proofs.Tables.{tab-ext, length-tab, get_or-tab, tab-take}
 use Rattle.ground.proofs.Filled.{tab-front, tab-split, get_or-padded}
 use Rattle.model.specs.declared.Layout.{Layout}
 use Rattle.model.specs.declared.Row.{Row}
-use Rattle.model.specs.Samples.{missing, is_missing, none, is_none, sample_of}
+use Rattle.model.specs.Samples.{is_missing, none, is_none, sample_of}
 use Rattle.model.specs.Rows.{latest_time, trimmed}
 use Rattle.model.proofs.SampleLaws.{missing-is, is-missing, none_is, is-none, small-none, holds-there}
 use Rattle.row_places.specs.Rows.{places_of, bool_place, sample_place, place_sample, row_places, up_to, fits_place, unfit, row_of_places}

@@ -3,7 +3,6 @@ use Rattle.ascii_file.proofs.Laws.{line-taken-within, rows_none, rows-after}
 use Rattle.ground.proofs.Walk.{rest}
 use lib.ListN.{length-drop}
 use native.Mathlib.Omega.{arith}
-use Prim.Native.Nat.{◌-◌}
 use mathlib.Core.Path.{◌≡◌, sym}
 use Rattle.ascii_file.proofs.after_rows.Goals as goal
 use Rattle.ascii_file.proofs.after_rows.Goals.{After-line_taken-m}

@@ -2,7 +2,7 @@
 -- The measure is what is left of A.
 use mathlib.Core.Path.{◌≡◌}
 use mathlib.Core.List.{◌++◌}
-use Prim.Native.Nat.{◌≤◌, ◌-◌, ◌+◌}
+use Prim.Native.Nat.{◌≤◌, ◌-◌}
 use lib.ListN.{length, drop}
 use Rattle.ground.specs.Tables.{cat}
 use Rattle.ascii_plain.specs.Rows.{sample_text}

@@ -2,7 +2,7 @@
 -- The measure is the statuses that are left.
 use mathlib.Core.Path.{◌≡◌}
 use mathlib.Core.List.{◌++◌}
-use Prim.Native.Nat.{◌≤◌, ◌*◌, ◌-◌, ◌+◌}
+use Prim.Native.Nat.{◌≤◌, ◌*◌, ◌-◌}
 use lib.ListN.{length, drop}
 use Rattle.ascii_plain.specs.Rows.{statuses_text}
 use Rattle.ascii_plain.proofs.put_statuses.Given as goal

@@ -1,7 +1,7 @@
 -- `ascii_plain::samples_length` meets its contract. The loop's invariant: n is the length of the first i samples, at most 12 each.
 -- The measure is what is left of A.
 use mathlib.Core.Path.{◌≡◌, refl, ap, ◌∙◌}
-use Prim.Native.Nat.{◌≤◌, ◌-◌, ◌+◌}
+use Prim.Native.Nat.{◌≤◌, ◌+◌}
 use native.Mathlib.Omega.{arith}
 use borrow.Author.Rules.{rules}
 use lib.IntN.{ℤ, pos}

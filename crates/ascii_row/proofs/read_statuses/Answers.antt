@@ -6,7 +6,6 @@ use Rattle.text.proofs.FieldLaws.{field-within, after_none}
 use lib.Seq.{length-take-le, drop-length}
 use lib.ListN.{length, length-set}
 use native.Mathlib.Omega.{arith}
-use Prim.Native.Nat.{◌-◌}
 use mathlib.Core.List.{append-nil}
 use mathlib.Core.Path.{◌≡◌, refl, sym, ◌∙◌}
 use Rattle.ascii_row.proofs.read_statuses.Goals as goal

@@ -1,5 +1,4 @@
 -- `ascii_walk::pass_fours` meets its contract. The loop's invariant: k statuses are passed, two bytes each.
-use Prim.Native.Nat.{◌-◌}
 use native.Mathlib.Omega.{arith}
 use Rattle.ascii_walk.proofs.WalkLaws.{passed-four}
 use Rattle.ascii_walk.proofs.pass_fours.Goals as goal

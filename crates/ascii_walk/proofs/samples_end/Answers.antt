@@ -1,6 +1,5 @@
 -- `ascii_walk::samples_end` meets its contract. The loop's invariant: k samples are passed.
 use mathlib.Core.Path.{◌≡◌, refl}
-use Prim.Native.Nat.{◌-◌}
 use native.Mathlib.Omega.{arith}
 use Rattle.ascii_walk.proofs.WalkLaws.{passed_on, next-sample}
 use Rattle.ascii_walk.proofs.samples_end.Goals as goal

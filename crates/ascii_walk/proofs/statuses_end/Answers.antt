@@ -1,6 +1,5 @@
 -- `ascii_walk::statuses_end` meets its contract. The loop's invariant: k statuses are passed, two bytes each.
 use mathlib.Core.Path.{◌≡◌}
-use Prim.Native.Nat.{◌-◌}
 use native.Mathlib.Omega.{arith}
 use Rattle.ascii_walk.proofs.WalkLaws.{passed-status}
 use Rattle.ascii_walk.proofs.statuses_end.Goals as goal

@@ -2,7 +2,6 @@
 use mathlib.Core.Path.{◌≡◌, ◌∙◌}
 use native.Mathlib.Omega.{arith}
 use borrow.Author.Rules.{rules}
-use lib.ListN.{length}
 use lib.Seq.{drop-length}
 use Rattle.binary_bytes.specs.Rows.{packed}
 use Rattle.binary_bytes.proofs.PackLaws.{pack-off, pack-on}

@@ -2,7 +2,7 @@
 -- The measure is what is left of A.
 use mathlib.Core.Path.{◌≡◌}
 use mathlib.Core.List.{◌++◌}
-use Prim.Native.Nat.{◌≤◌, ◌*◌, ◌-◌, ◌+◌}
+use Prim.Native.Nat.{◌≤◌, ◌*◌, ◌-◌}
 use lib.ListN.{length, drop}
 use Rattle.ground.specs.Tables.{cat}
 use Rattle.binary_bytes.specs.Rows.{sample_bytes}

@@ -2,7 +2,7 @@
 -- The measure is the words that are left.
 use mathlib.Core.Path.{◌≡◌}
 use mathlib.Core.List.{◌++◌}
-use Prim.Native.Nat.{◌≤◌, ◌*◌, ◌-◌, ◌+◌, min}
+use Prim.Native.Nat.{◌≤◌, ◌*◌, ◌-◌, min}
 use lib.ListN.{length, drop}
 use Rattle.ground.specs.Tables.{tab}
 use Rattle.binary_row.specs.Rows.{word_status}

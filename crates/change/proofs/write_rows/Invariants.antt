@@ -4,7 +4,7 @@ use Rattle.change_length.specs.Inner.{rows_length, rows_bytes}
 use Rattle.rows.specs.Inner.{rest_of}
 use Rattle.data.specs.Files.{row_at}
 use lib.ListN.{length, drop}
-use Prim.Native.Nat.{◌≤◌, ◌+◌, ◌-◌}
+use Prim.Native.Nat.{◌≤◌, ◌-◌}
 use mathlib.Core.List.{◌++◌}
 use mathlib.Core.Path.{◌≡◌}
 use Rattle.change.proofs.write_rows.Given as goal

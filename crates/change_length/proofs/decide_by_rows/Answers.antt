@@ -18,11 +18,10 @@ pub settle-requires : goal.settle-requires
 settle-requires c = c.weigh_rows.ensures.1
 
 pub returns-in-Yes : goal.returns-in-Yes
-returns-in-Yes c =
-    (
-      rw (c.settle.ensures.0, c.weigh_rows.ensures.0, c.in_kind.ensures, decided-walk c.args.layout c.args.«data».now c.args.kind, walked (goal.at.returns-in-Yes c).In-Yes),
-      c.settle.ensures.1,
-    )
+returns-in-Yes c = (
+  rw (c.settle.ensures.0, c.weigh_rows.ensures.0, c.in_kind.ensures, decided-walk c.args.layout c.args.«data».now c.args.kind, walked (goal.at.returns-in-Yes c).In-Yes),
+  c.settle.ensures.1,
+)
 
 pub returns-in-No : goal.returns-in-No
 returns-in-No c =

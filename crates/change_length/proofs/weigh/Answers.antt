@@ -2,7 +2,7 @@
 use Rattle.change_length.proofs.TallyLaws.{tallied-length}
 use Rattle.model.proofs.LayoutLaws.{sized-in}
 use Rattle.model.specs.Layouts.{Sized, in_kind}
-use Rattle.change_length.specs.Inner.{tallied, weigh}
+use Rattle.change_length.specs.Inner.{weigh}
 use Rattle.rows.specs.Inner.{row_here}
 use Rattle.row_bytes.specs.Inner.{length_of}
 use Rattle.row_bytes.proofs.RowLaws.{length-known}
@@ -57,8 +57,7 @@ tallied-requires c = small (goal.at.tallied-requires c).After-first_misfit-bad
 
 pub returns : goal.returns
 unfolding weigh
-returns c =
-    (
-      rw (c.tallied.ensures, found (goal.at.returns c).After-first_misfit-bad, size (goal.at.returns c).After-length_by-size),
-      rw (c.tallied.ensures, tallied-length) (omega (arith, c.length_by-size.ensures.1)),
-    )
+returns c = (
+  rw (c.tallied.ensures, found (goal.at.returns c).After-first_misfit-bad, size (goal.at.returns c).After-length_by-size),
+  rw (c.tallied.ensures, tallied-length) (omega (arith, c.length_by-size.ensures.1)),
+)

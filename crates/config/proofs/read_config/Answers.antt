@@ -67,7 +67,7 @@ taken c =
 
 one : (c : After-take_line-one) → let r = c.take_line-one.result in
     step_of c.loop-rule.rule c.loop-rule.config (drop c.loop-rule.at c.args.cfg.now)
-        ≡ record { fault = r.fault; used = c.next_line-line.result.taken; rule = r.rule; config = r.config }
+    ≡ record { fault = r.fault; used = c.next_line-line.result.taken; rule = r.rule; config = r.config }
 unfolding step_of
 one c = rw (← sought c, eq-eqb _ 0 c.if-line-ne0.false, ← taken c)
 

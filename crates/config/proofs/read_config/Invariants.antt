@@ -2,7 +2,6 @@
 use mathlib.Core.Path.{◌≡◌}
 use Prim.Native.Nat.{◌+◌, ◌-◌, ◌≤◌}
 use lib.ListN.{length, drop}
-use Rattle.ground.proofs.Walk.{rest}
 use Rattle.config.specs.Config.{config_answer, read_config}
 use Rattle.config.specs.Reading.{said_of}
 use Rattle.config_rules.specs.Inner.{Ready}

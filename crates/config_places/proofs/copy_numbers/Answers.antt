@@ -5,7 +5,6 @@ use lib.IntN.{pos}
 use Rattle.ground.proofs.Tables.{tab-get_or}
 use mir.ValLaws.{to_z-of_z}
 use native.Mathlib.Omega.{arith}
-use Prim.Native.Nat.{◌-◌}
 use lib.ListN.{get_or, length-set}
 use mathlib.Core.Path.{◌∙◌}
 use Rattle.config_places.proofs.copy_numbers.Goals as goal

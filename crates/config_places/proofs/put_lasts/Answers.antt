@@ -4,7 +4,6 @@ use mir.Syntax.{w64}
 use lib.IntN.{pos}
 use mir.ValLaws.{to_z-of_z}
 use native.Mathlib.Omega.{arith}
-use Prim.Native.Nat.{◌-◌}
 use lib.ListN.{get_or, length-set}
 use mathlib.Core.Path.{◌∙◌}
 use Rattle.config_places.proofs.put_lasts.Goals as goal

@@ -1,6 +1,5 @@
 -- `is_among` meets its contract. The loop's invariant: b is among all exactly where it is among those left.
 use mathlib.Core.Path.{refl}
-use Prim.Native.Nat.{◌-◌}
 use native.Mathlib.Omega.{arith}
 use borrow.Author.Tests.{eq-eqb, ne_eqb}
 use Rattle.ground.proofs.Walk.{here, done}

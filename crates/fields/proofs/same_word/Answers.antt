@@ -1,6 +1,5 @@
 -- `same_word` meets its contract. The loop's invariant: the two are as long as each other, and are the same exactly where what is left of them is.
 use mathlib.Core.Path.{refl}
-use Prim.Native.Nat.{◌-◌}
 use native.Mathlib.Omega.{arith}
 use borrow.Author.Tests.{eq-eqb, ne_eqb}
 use Rattle.ground.proofs.Walk.{here, done}

@@ -1,6 +1,5 @@
 -- `put_samples` meets its contract. The loop's invariant: the first i samples are put. The measure is what is left of a.
 use mathlib.Core.Path.{◌≡◌, refl, ◌∙◌}
-use Prim.Native.Nat.{◌-◌}
 use native.Mathlib.Omega.{arith}
 use Rattle.list_lines.specs.Lines.{spaced_samples}
 use Rattle.pieces.proofs.Laws.{put-none, put_then, put_as}

@@ -1,6 +1,5 @@
 -- `put_statuses` meets its contract. The loop's invariant: the first i statuses are put. The measure is what is left of d.
 use mathlib.Core.Path.{◌≡◌, refl, ◌∙◌}
-use Prim.Native.Nat.{◌-◌}
 use native.Mathlib.Omega.{arith}
 use Rattle.list_lines.specs.Lines.{spaced_statuses}
 use Rattle.pieces.proofs.Laws.{put-none, put_then, put_as}

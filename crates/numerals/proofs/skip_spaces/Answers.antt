@@ -1,6 +1,5 @@
 -- `numerals::skip_spaces` meets its contract. The loop's invariant: up to any end, the spaces that lead from `at` on are those before i and then those that lead from i on.
 use mathlib.Core.Path.{◌≡◌, ◌∙◌}
-use Prim.Native.Nat.{◌-◌}
 use native.Mathlib.Nat.{add-zero}
 use native.Mathlib.Omega.{arith}
 use Rattle.ground.proofs.Parts.{part_none}

@@ -1,7 +1,7 @@
 -- `fits_pattern` meets its contract. The loop's invariant: the two are as long as each other, and fit if what is left of them at i does.
 use mathlib.Core.Bool.{◌&&◌}
 use mathlib.Core.Path.{◌≡◌, refl, sym}
-use Prim.Native.Nat.{◌-◌, ◌+◌}
+use Prim.Native.Nat.{◌+◌}
 use native.Mathlib.Omega.{arith}
 use lib.ListN.{drop}
 use Rattle.ground.proofs.Walk.{here, done}

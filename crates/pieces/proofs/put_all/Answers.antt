@@ -1,7 +1,7 @@
 -- `put_all` meets its contract. The loop's invariant: the first i bytes of s stand after the first n of what there was, and what follows stays. The measure is what is left of s.
 use mathlib.Core.Path.{◌≡◌, refl, ◌∙◌}
 use mathlib.Core.List.{append_assoc, append-nil}
-use Prim.Native.Nat.{◌<◌, ◌-◌, ◌+◌}
+use Prim.Native.Nat.{◌<◌, ◌+◌}
 use native.Mathlib.Numerals.{add-one}
 use native.Mathlib.Omega.{arith}
 use lib.ListN.{length, get_or, length-set}

@@ -1,6 +1,6 @@
 -- `digits_of` meets its contract. The loop's invariant: the digits before i are worth v, which is below 10 ^ i.
 use mathlib.Core.Path.{sym, ◌∙◌}
-use Prim.Native.Nat.{◌≤◌, ◌-◌}
+use Prim.Native.Nat.{◌≤◌}
 use native.Mathlib.Omega.{arith}
 use lib.ListN.{get_or}
 use Rattle.ground.proofs.Walk.{here, done}

@@ -1,6 +1,5 @@
 -- `is_zero` meets its contract. The loop's invariant: the whole is zero where what is left is.
 use Rattle.ground.specs.Tables.{every}
-use Prim.Native.Nat.{◌-◌}
 use native.Mathlib.Omega.{arith}
 use Rattle.ground.proofs.Walk.{here, done}
 use Rattle.reals.specs.Forms.{is_zero}

@@ -1,5 +1,4 @@
 -- `leading_digits` meets its contract. The loop's invariant: i digits lead, and then those that lead what is left.
-use Prim.Native.Nat.{◌-◌}
 use native.Mathlib.Omega.{arith}
 use Rattle.ground.proofs.Walk.{here, done}
 use Rattle.reals.specs.Forms.{leading_digits}

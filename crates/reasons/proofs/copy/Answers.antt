@@ -1,6 +1,5 @@
 -- `copy` meets its contract. The loop's invariant: the first i bytes are copied, and the rest is as it was. The measure is what is left of the slice.
 use mathlib.Core.Path.{refl, ◌∙◌}
-use Prim.Native.Nat.{◌-◌}
 use native.Mathlib.Omega.{arith}
 use lib.ListN.{get_or, length-set}
 use Rattle.ground.proofs.FillLaws.{fill-next, filled}

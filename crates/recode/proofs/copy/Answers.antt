@@ -5,7 +5,6 @@ use lib.Seq.{drop-length}
 use Rattle.ground.proofs.Tables.{tab-set, tab-get_or}
 use native.Mathlib.Omega.{arith}
 use lib.ListN.{length-set, length, get_or}
-use Prim.Native.Nat.{◌-◌}
 use Rattle.recode.proofs.copy.Goals as goal
 
 pub loop-i-smaller : goal.loop-i-smaller

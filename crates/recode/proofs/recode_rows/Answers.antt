@@ -3,7 +3,7 @@ use Rattle.ground.proofs.Parts.{length_part}
 use borrow.Author.Rules.{rules}
 use native.Mathlib.Omega.{arith}
 use mathlib.Core.Path.{◌≡◌, refl, sym, ◌∙◌}
-use Prim.Native.Nat.{◌+◌, ◌-◌, ◌*◌, ◌<◌, ◌≤◌}
+use Prim.Native.Nat.{◌+◌, ◌*◌, ◌<◌, ◌≤◌}
 use lib.ListN.{length}
 use native.Mathlib.Nat.{zero-mul}
 use mathlib.Core.List.{append-nil}

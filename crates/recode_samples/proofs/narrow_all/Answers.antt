@@ -3,7 +3,7 @@ use native.Mathlib.Omega.{arith}
 use mathlib.Core.Path.{◌∙◌}
 use Rattle.ground.proofs.Tables.{cat-turn}
 use Rattle.ground.proofs.Parts.{length_part}
-use Prim.Native.Nat.{◌+◌, ◌-◌, ◌*◌}
+use Prim.Native.Nat.{◌+◌, ◌*◌}
 use Rattle.recode_samples.specs.Inner.{recoded, bytes_at}
 use Rattle.recode_samples.proofs.SampleLaws.{length-recoded, recoded-all, no_stray}
 use Rattle.model.specs.declared.Kind.TheVariants.{Binary, Binary32}

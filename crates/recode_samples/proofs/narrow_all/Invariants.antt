@@ -1,7 +1,7 @@
 -- `recode_samples::narrow_all` meets its contract. The loop's invariant: the slice begins with i samples, and the rest is as it was. The measure is what is left of a.
 use mathlib.Core.Path.{◌≡◌}
 use mathlib.Core.List.{◌++◌}
-use Prim.Native.Nat.{◌+◌, ◌≤◌, ◌-◌, ◌*◌}
+use Prim.Native.Nat.{◌≤◌, ◌-◌, ◌*◌}
 use Rattle.recode_samples.specs.Inner.{recoded, bytes_at}
 use lib.ListN.{length, drop}
 use Rattle.ground.specs.Tables.{cat}

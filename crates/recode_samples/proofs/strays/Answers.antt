@@ -4,7 +4,6 @@ use mathlib.Core.Path.{refl, sym, ap, ◌∙◌, ◌≡◌}
 use Rattle.recode_samples.proofs.SampleLaws.{stray-le, strays-next}
 use Rattle.model.specs.declared.Kind.TheVariants.{Binary32}
 use Rattle.recode_samples.specs.Inner.{bytes_at, strays_of}
-use Prim.Native.Nat.{◌-◌}
 use Rattle.recode_samples.proofs.strays.Goals as goal
 
 pub loop-i-init : goal.loop-i-init

@@ -3,7 +3,6 @@ use native.Mathlib.Omega.{arith}
 use Rattle.ground.proofs.Tables.{cat-turn}
 use Rattle.recode_samples.specs.Inner.{recoded, bytes_at}
 use Rattle.recode_samples.proofs.SampleLaws.{length-recoded, recoded-all}
-use Prim.Native.Nat.{◌-◌}
 use Rattle.model.specs.declared.Kind.TheVariants.{Binary, Binary32}
 use Rattle.recode_samples.proofs.widen_all.Goals as goal
 

@@ -1,7 +1,6 @@
 -- `fields_length` meets its contract. The loop's invariant: the size so far and what the walk gives from here make the whole; the size is within the bytes, the field at most one ahead.
 -- The measure is what is left of the line.
 use mathlib.Core.Path.{ap}
-use Prim.Native.Nat.{◌-◌}
 use native.Mathlib.Omega.{arith}
 use lib.ListN.{length, get_or}
 use Rattle.ground.proofs.Walk.{done}

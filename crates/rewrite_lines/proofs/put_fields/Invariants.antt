@@ -4,7 +4,6 @@ use mathlib.Core.Path.{◌≡◌}
 use mathlib.Core.List.{List, ◌++◌}
 use Prim.Native.Nat.{ℕ, ◌≤◌, ◌+◌, ◌-◌}
 use lib.ListN.{length, drop}
-use Rattle.ground.proofs.Walk.{done}
 use Rattle.pieces.specs.Inner.{Put}
 use Rattle.rewrite_lines.specs.Lines.{fields_text}
 use Rattle.rewrite_lines.specs.Inner.{walked}

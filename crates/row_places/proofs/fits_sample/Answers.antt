@@ -1,6 +1,5 @@
 -- `fits_sample` meets its contract: a number of the kind binary fits, "there is none" fits, and any other where the layout holds it.
 use mathlib.Core.Path.{◌≡◌, ap, sym, ◌∙◌}
-use mathlib.Core.Bool.{true}
 use Prim.Native.Nat.{◌<◌}
 use lib.IntN.{nat_abs}
 use mir.Syntax.{w64}

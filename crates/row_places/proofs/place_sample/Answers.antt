@@ -1,6 +1,5 @@
 -- `place_sample` meets its contract.
 use mathlib.Core.Path.{◌≡◌, ap, sym, ◌∙◌}
-use mathlib.Core.Bool.{false}
 use mir.Syntax.{w32, w64}
 use mir.ValLaws.{to_z-of_z}
 use Rattle.model.specs.Samples.{is_none}

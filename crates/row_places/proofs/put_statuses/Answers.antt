@@ -5,7 +5,6 @@ use mathlib.Core.Bool.{false}
 use Rattle.row_places.specs.Rows.{bool_place}
 use mir.ValLaws.{to_z-of_z}
 use native.Mathlib.Omega.{arith}
-use Prim.Native.Nat.{◌-◌}
 use lib.ListN.{get_or, length-set}
 use mathlib.Core.Path.{◌∙◌}
 use Rattle.row_places.proofs.put_statuses.Goals as goal

@@ -1,6 +1,5 @@
 -- `row_places::samples_of` meets its contract. The loop's invariant: the first i places have their samples, and the rest is zero. The measure is what is left of the places.
 use mathlib.Core.Path.{◌≡◌, ◌∙◌}
-use Prim.Native.Nat.{◌-◌}
 use native.Mathlib.Omega.{arith}
 use lib.IntN.{pos}
 use lib.ListN.{length, get_or}

@@ -1,7 +1,6 @@
 -- `row_places::statuses_of` meets its contract. The loop's invariant: the first i places have their statuses, and the rest is off. The measure is what is left of the places.
 use mathlib.Core.Path.{◌≡◌, ◌∙◌}
 use mathlib.Core.Bool.{false}
-use Prim.Native.Nat.{◌-◌}
 use native.Mathlib.Omega.{arith}
 use lib.IntN.{pos}
 use lib.ListN.{length, get_or}

@@ -4,7 +4,6 @@ use Rattle.text.proofs.FieldLaws.{taken-within, after_none, after_next}
 use Rattle.ground.proofs.Walk.{rest}
 use lib.ListN.{length-drop}
 use native.Mathlib.Omega.{arith}
-use Prim.Native.Nat.{◌-◌}
 use mathlib.Core.Path.{◌≡◌, sym}
 use Rattle.text.proofs.after_fields.Goals as goal
 use Rattle.text.proofs.after_fields.Goals.{After-field_taken-m}

@@ -1,6 +1,5 @@
 -- `text::field_count` meets its contract. The loop's invariant: the fields are n and the commas that are left at i, and n is at most i + 1.
 -- Assumes nothing.
-use Prim.Native.Nat.{◌-◌}
 use native.Mathlib.Omega.{arith}
 use borrow.Author.Tests.{eq-eqb, ne_eqb}
 use Rattle.ground.proofs.Walk.{here, done}

@@ -1,6 +1,5 @@
 -- `text::field_length` meets its contract. The loop's invariant: the first field has i bytes and those of the first field of what is left at i.
 -- Assumes nothing.
-use Prim.Native.Nat.{◌-◌}
 use native.Mathlib.Omega.{arith}
 use borrow.Author.Tests.{eq-eqb, ne_eqb}
 use Rattle.ground.proofs.Walk.{here, done}

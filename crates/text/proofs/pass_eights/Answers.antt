@@ -1,6 +1,6 @@
 -- `text::pass_eights` meets its contract. The loop's invariant: the scan of s comes to what the scan of what is left at i does.
 use mathlib.Core.Path.{◌≡◌, refl, sym, ◌∙◌}
-use Prim.Native.Nat.{◌+◌, ◌-◌}
+use Prim.Native.Nat.{◌+◌}
 use native.Mathlib.Omega.{arith}
 use Rattle.ground.proofs.Every.{and_split}
 use Rattle.text.specs.Lines.{scan_line}

@@ -1,6 +1,6 @@
 -- `words::word_of` meets its contract. The loop's invariant: v is what the bytes from i on hold. The measure is i.
 use mathlib.Core.Path.{◌≡◌}
-use Prim.Native.Nat.{◌≤◌, ◌-◌}
+use Prim.Native.Nat.{◌≤◌}
 use lib.ListN.{length, drop}
 use Rattle.words.specs.Words.{word_of}
 use Rattle.words.proofs.word_of.Given as goal

@@ -1,6 +1,6 @@
 -- `days_of_months` meets its contract. The loop's invariant: days are those of the first m months.
 use mathlib.Core.Path.{◌≡◌, refl}
-use Prim.Native.Nat.{◌+◌, ◌-◌}
+use Prim.Native.Nat.{◌+◌}
 use native.Mathlib.Numerals.{add-one}
 use native.Mathlib.Omega.{arith}
 use Rattle.clock.specs.Dates.{days_of_months}

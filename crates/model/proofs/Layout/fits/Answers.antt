@@ -1,6 +1,5 @@
 -- `Layout::fits` meets its contract: a number of the kind binary fits, a missing sample fits, and any other is kept by 64 bits.
 use mathlib.Core.Path.{◌≡◌, ap, sym, ◌∙◌}
-use mathlib.Core.Bool.{true}
 use Prim.Native.Nat.{◌<◌}
 use lib.IntN.{nat_abs}
 use mir.Syntax.{w32, w64}

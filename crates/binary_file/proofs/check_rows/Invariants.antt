@@ -1,0 +1,11 @@
+-- `binary_file::check_rows` meets its contract. The loop's invariant: the rows from i on say what all rows say. The measure is what is left of the rows.
+use mathlib.Core.Path.{◌≡◌}
+use Prim.Native.Nat.{◌≤◌, ◌-◌}
+use Rattle.binary_file.specs.Files.{check_rows}
+use Rattle.binary_file.proofs.check_rows.Given as goal
+
+abbrev pub invariant-loop-i : goal.invariant-loop-i
+invariant-loop-i l = (l.i ≤ l.layout.rows) × (check_rows l.layout l.data l.i (layout'.rows - l.i) ≡ check_rows layout' l.data 0 layout'.rows)
+
+abbrev pub decreases-loop-i : goal.decreases-loop-i
+decreases-loop-i l = l.rows - l.i

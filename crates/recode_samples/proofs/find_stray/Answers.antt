@@ -1,0 +1,28 @@
+-- `recode_samples::find_stray` meets its contract. The loop's invariant: the search from i on finds what the whole search does. The measure is what is left of a.
+use native.Mathlib.Omega.{arith}
+use mathlib.Core.Path.{sym, ◌∙◌, ◌≡◌}
+use native.Mathlib.Nat.{sub-zero}
+use Rattle.model.specs.Rows.{misfit}
+use Rattle.recode_samples.proofs.SampleLaws.{search-on, search-here}
+use Prim.Native.Nat.{◌-◌}
+use Rattle.recode_samples.specs.Inner.{first_stray}
+use Rattle.recode_samples.proofs.find_stray.Goals as goal
+
+pub loop-i-init : goal.loop-i-init
+unfolding first_stray misfit
+loop-i-init c = (omega arith, rw sub-zero)
+
+pub returns-then-stray-ne0 : goal.returns-then-stray-ne0
+returns-then-stray-ne0 c =
+    let p = c.loop-i in
+    sym (search-here c.args.b.now c.args.a p.i c.loop-i-test.true (λ e. c.if-stray-ne0.true (c.stray.ensures ∙ e))) ∙ p.invariant.1
+
+pub loop-i-preserved : goal.loop-i-preserved
+loop-i-preserved c =
+    let p = c.loop-i in
+    (omega arith, sym (search-on c.args.b.now c.args.a p.i c.loop-i-test.true (sym c.stray.ensures ∙ c.if-stray-ne0.false)) ∙ p.invariant.1)
+
+pub returns : goal.returns
+returns c =
+    let z : c.args.a - c.loop-i.i ≡ 0 = omega arith in
+    rw z at c.loop-i.invariant.1

@@ -6,6 +6,7 @@
 --     number-field, time-field, sample-field, status-field     what each of them is
 --     unread-text                               places past A and D are not read
 -- Assumes nothing.
+use Rattle.std.specs.Prelude.{if◌then◌else◌}
 use mathlib.Core.Path.{◌≡◌, refl, ap, ◌∙◌}
 use mathlib.Core.Bool.{Bool, true, false, ◌&&◌}
 use mathlib.Core.List.{List, [], ◌∷◌, ◌++◌, append_assoc}
@@ -15,7 +16,6 @@ use borrow.Author.Tests.{leb-true, le-leb, ne_eqb, lt-ltb, le-ltb}
 use lib.Dec.{leb, ltb}
 use lib.IntN.{ℤ, pos, negsuc}
 use lib.ListN.{get_or}
-use Rattle.ground.specs.Choice.{if◌then◌else◌}
 use Rattle.ground.specs.Tables.{cat, every}
 use Rattle.ground.proofs.Cases.{on_test}
 use Rattle.ground.proofs.Every.{and_split, and-join, every_append, every-cat, every-imply}

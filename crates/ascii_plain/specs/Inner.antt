@@ -1,6 +1,5 @@
 -- NOTHING TO BELIEVE HERE: what the writers of a row ask first, and what laws of plain texts cite. The law `length-text` (proofs/LengthLaws.antt) says that `text_length` is the length of the row's text.
-use Rattle.std.specs.Prelude.{Bool, ◌||◌, List, ℕ, zero, suc, ◌+◌, ◌*◌, eqb, ℤ, pos, length, get_or}
-use Rattle.ground.specs.Choice.{if◌then◌else◌}
+use Rattle.std.specs.Prelude.{Bool, ◌||◌, List, ℕ, zero, suc, ◌+◌, ◌*◌, eqb, ℤ, pos, length, get_or, if◌then◌else◌}
 use Rattle.numerals.specs.Decimals.{decimal, is_plain}
 use Rattle.model.specs.declared.Layout.{Layout}
 use Rattle.model.specs.Samples.{marked}

@@ -1,6 +1,5 @@
 -- The plain written row: no spaces, no plus, no needless zeros, zero as 0, nothing for a missing sample or the mark of the edition, CR LF at its end.
-use Rattle.std.specs.Prelude.{Bool, false, List, [], ◌∷◌, ◌++◌, ℕ, ◌+◌, ℤ, pos, get_or}
-use Rattle.ground.specs.Choice.{if◌then◌else◌}
+use Rattle.std.specs.Prelude.{Bool, false, List, [], ◌∷◌, ◌++◌, ℕ, ◌+◌, ℤ, pos, get_or, if◌then◌else◌}
 use Rattle.ground.specs.Quoted.{quoted}
 use Rattle.ground.specs.Tables.{cat}
 use Rattle.numerals.specs.Decimals.{decimal, plain}

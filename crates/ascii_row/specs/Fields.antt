@@ -1,6 +1,5 @@
 -- Fields of a text row: what the characters of each say.
-use Rattle.std.specs.Prelude.{Bool, true, false, ◌||◌, List, [], ◌∷◌, ℕ, eqb, leb, ℤ, pos, length, get_or}
-use Rattle.ground.specs.Choice.{if◌then◌else◌}
+use Rattle.std.specs.Prelude.{Bool, true, false, ◌||◌, List, [], ◌∷◌, ℕ, eqb, leb, ℤ, pos, length, get_or, if◌then◌else◌}
 use Rattle.numerals.specs.declared.Count.{Count}
 use Rattle.numerals.specs.declared.Count.TheVariants as count
 use Rattle.numerals.specs.declared.Whole.{Whole}

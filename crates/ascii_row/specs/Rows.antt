@@ -1,6 +1,5 @@
 -- Rows of text: whether a row's line is fine, in the paper's order of refusals, and the row that it says.
-use Rattle.std.specs.Prelude.{Bool, false, List, ℕ, zero, suc, ◌+◌, eqb, leb, ℤ, pos, drop}
-use Rattle.ground.specs.Choice.{if◌then◌else◌}
+use Rattle.std.specs.Prelude.{Bool, false, List, ℕ, zero, suc, ◌+◌, eqb, leb, ℤ, pos, drop, if◌then◌else◌}
 use Rattle.ground.specs.Said.{Said, says, refuses, ◌>>=◌, ◌>>◌, must}
 use Rattle.ground.specs.Tables.{padded}
 use Rattle.text.specs.Fields.{field_count, field_length, first_field, after_fields, field_at}

@@ -5,6 +5,7 @@
 --     packed-bits               the bits of a number, packed, are the number
 --     lt-of-div                 a number that has no bit from k on is small
 -- Assumes nothing.
+use Rattle.std.specs.Prelude.{if◌then◌else◌}
 use mathlib.Core.Path.{◌≡◌, ◌∙◌}
 use mathlib.Core.Bool.{Bool, true, false}
 use mathlib.Core.List.{List, [], ◌∷◌}
@@ -16,7 +17,6 @@ use lib.Bits.{bit_or, or_shifted}
 use lib.Dec.{lit<, lit≤}
 use lib.ListN.{length, get_or, drop, length-drop}
 use lib.Pow.{pow_pos, pow_mono}
-use Rattle.ground.specs.Choice.{if◌then◌else◌}
 use Rattle.ground.specs.Tables.{tab}
 use Rattle.ground.proofs.Cases.{on_test}
 use Rattle.ground.proofs.Walk.{here-any}

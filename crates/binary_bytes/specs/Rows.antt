@@ -1,6 +1,5 @@
 -- Rows of the two binary kinds: the bytes that a row has.
-use Rattle.std.specs.Prelude.{Bool, List, [], ◌∷◌, ◌++◌, ℕ, ◌+◌, ◌*◌, min, ℤ, pos, get_or}
-use Rattle.ground.specs.Choice.{if◌then◌else◌}
+use Rattle.std.specs.Prelude.{Bool, List, [], ◌∷◌, ◌++◌, ℕ, ◌+◌, ◌*◌, min, ℤ, pos, get_or, if◌then◌else◌}
 use Rattle.ground.specs.Tables.{part, cat}
 use Rattle.words.specs.Words.{word_bytes}
 use Rattle.model.specs.declared.Layout.{Layout}

@@ -1,6 +1,5 @@
 -- Rows of the two binary kinds: what the bytes of a row say.
-use Rattle.std.specs.Prelude.{Bool, true, false, List, ℕ, ◌+◌, ◌*◌, ◌/◌, ◌%◌, ◌^◌, eqb, ℤ, pos}
-use Rattle.ground.specs.Choice.{if◌then◌else◌}
+use Rattle.std.specs.Prelude.{Bool, true, false, List, ℕ, ◌+◌, ◌*◌, ◌/◌, ◌%◌, ◌^◌, eqb, ℤ, pos, if◌then◌else◌}
 use Rattle.ground.specs.Said.{Said, ◌>>◌, must}
 use Rattle.ground.specs.Tables.{part, padded}
 use Rattle.words.specs.Words.{word_of}

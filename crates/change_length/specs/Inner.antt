@@ -1,7 +1,6 @@
 -- NOTHING TO BELIEVE HERE: what each private function of the code says. `decided` is what `bytes_needed` says of a layout within the sizes (law `needed-decided`, proofs/LengthLaws.antt);
 -- the laws `decided-walk` (proofs/TallyLaws.antt) and `decided-binary` (proofs/BinaryLaws.antt) say that a walk with its tally, and a check in the bytes of a binary kind, come to just that.
-use Rattle.std.specs.Prelude.{Bool, true, false, not, List, ℕ, zero, suc, ◌+◌, ◌*◌, ◌≤◌, eqb, length}
-use Rattle.ground.specs.Choice.{if◌then◌else◌}
+use Rattle.std.specs.Prelude.{Bool, true, false, not, List, ℕ, zero, suc, ◌+◌, ◌*◌, ◌≤◌, eqb, length, if◌then◌else◌}
 use Rattle.ground.specs.Said.{Said, says, refuses, ◌>>◌, must}
 use Rattle.ground.specs.Tables.{cat}
 use Rattle.model.specs.declared.Kind.{Kind}

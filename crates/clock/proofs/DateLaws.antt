@@ -8,6 +8,7 @@
 --     next-valid                        the day after is valid, up to the year 9999
 --     read-date-valid                   a date that is read is valid
 -- Assumes nothing.
+use Rattle.std.specs.Prelude.{if◌then◌else◌}
 use mathlib.Core.Path.{◌≡◌, refl, sym, ap, ◌∙◌}
 use mathlib.Core.Bool.{true, ◌&&◌}
 use mathlib.Core.List.{List}
@@ -18,7 +19,6 @@ use native.Mathlib.Omega.{arith}
 use borrow.Author.Tests.{eq-eqb, eqb-true, eqb-false, ltb-true, ltb-false}
 use lib.Dec.{eqb, ltb, lit<}
 use lib.IntN.{ℤ, pos, ◌+ℤ◌}
-use Rattle.ground.specs.Choice.{if◌then◌else◌}
 use Rattle.ground.proofs.Cases.{on_test, clash}
 use Rattle.ground.proofs.Every.{and_split}
 use Rattle.clock.specs.declared.Date.{Date}

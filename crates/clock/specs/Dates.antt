@@ -1,7 +1,6 @@
 -- Dates of the years 1900 to 9999, as dd/mm/yyyy, no date, and days counted.
-use Rattle.std.specs.Prelude.{ℕ, zero, suc, ◌+◌, ◌-◌, ◌*◌, ◌/◌, ◌%◌, Bool, true, false, not, ◌&&◌, ◌||◌, List, eqb, ℤ, pos}
+use Rattle.std.specs.Prelude.{ℕ, zero, suc, ◌+◌, ◌-◌, ◌*◌, ◌/◌, ◌%◌, Bool, true, false, not, ◌&&◌, ◌||◌, List, eqb, ℤ, pos, if◌then◌else◌}
 use Rattle.ground.specs.Quoted.{quoted}
-use Rattle.ground.specs.Choice.{if◌then◌else◌}
 use Rattle.clock.specs.declared.Date.{Date}
 use Rattle.clock.specs.declared.DateField.{DateField}
 use Rattle.clock.specs.declared.DateField.TheVariants.{Is, None, Form, Range}

@@ -1,6 +1,5 @@
 -- NOTHING TO BELIEVE HERE: no contract cites this. The laws `next-number` (proofs/DateLaws.antt) and `pre-exact` (proofs/SpanLaws.antt) say of days and spans what it is for.
-use Rattle.std.specs.Prelude.{ℕ, ◌+◌, ltb, ℤ, pos, ◌+ℤ◌, ◌*ℤ◌}
-use Rattle.ground.specs.Choice.{if◌then◌else◌}
+use Rattle.std.specs.Prelude.{ℕ, ◌+◌, ltb, ℤ, pos, ◌+ℤ◌, ◌*ℤ◌, if◌then◌else◌}
 use Rattle.clock.specs.declared.Date.{Date}
 use Rattle.clock.specs.Dates.{month_days}
 

@@ -1,7 +1,6 @@
 -- Times of day, as hh:mm:ss. and 6 to 9 digits.
-use Rattle.std.specs.Prelude.{ℕ, ◌+◌, ◌-◌, ◌*◌, ◌^◌, Bool, ◌&&◌, List, eqb, ltb, length, take}
+use Rattle.std.specs.Prelude.{ℕ, ◌+◌, ◌-◌, ◌*◌, ◌^◌, Bool, ◌&&◌, List, eqb, ltb, length, take, if◌then◌else◌}
 use Rattle.ground.specs.Quoted.{quoted}
-use Rattle.ground.specs.Choice.{if◌then◌else◌}
 use Rattle.numerals.specs.Counts.{length_in}
 use Rattle.clock.specs.declared.Time.{Time}
 use Rattle.clock.specs.declared.TimeField.{TimeField}

@@ -1,7 +1,6 @@
 -- Time codes: an optional sign, hours of one or two digits, and then nothing or h and two digits of minutes.
-use Rattle.std.specs.Prelude.{ℕ, ◌+◌, ◌*◌, Bool, true, false, ◌&&◌, List, ℤ, pos, neg_ℤ, drop}
+use Rattle.std.specs.Prelude.{ℕ, ◌+◌, ◌*◌, Bool, true, false, ◌&&◌, List, ℤ, pos, neg_ℤ, drop, if◌then◌else◌}
 use Rattle.ground.specs.Quoted.{quoted}
-use Rattle.ground.specs.Choice.{if◌then◌else◌}
 use Rattle.numerals.specs.Counts.{length_in, leading_spaces}
 use Rattle.numerals.specs.Wholes.{sign_length, has_minus}
 use Rattle.codes.specs.declared.Code.{Code}

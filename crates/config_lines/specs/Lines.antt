@@ -1,6 +1,5 @@
 -- The lines of a configuration that speak of no channel, each by itself: its fields from the left, each with its rule. The lines of channels stand in crate channel_lines.
-use Rattle.std.specs.Prelude.{Bool, true, false, List, ℕ, ltb, ℤ, pos}
-use Rattle.ground.specs.Choice.{if◌then◌else◌}
+use Rattle.std.specs.Prelude.{Bool, true, false, List, ℕ, ltb, ℤ, pos, if◌then◌else◌}
 use Rattle.ground.specs.Said.{Said, says, refuses, ◌>>=◌, ◌>>◌, must}
 use Rattle.text.specs.Fields.{field_at}
 use Rattle.numerals.specs.declared.Count.{Count}

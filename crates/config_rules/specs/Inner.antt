@@ -1,7 +1,6 @@
 -- NOTHING TO BELIEVE HERE: what each function of the code says, line by line; the law `paper-agrees` (proofs/PaperLaws.antt) of the crate `config` says that all of them together are `read_config`.
 -- A configuration is read line by line. The rule of a line says what the line must be, what it adds to the configuration, and which rule comes next.
-use Rattle.std.specs.Prelude.{Bool, List, ℕ, ◌+◌, ◌-◌, eqb, ltb, ℤ, set}
-use Rattle.ground.specs.Choice.{if◌then◌else◌}
+use Rattle.std.specs.Prelude.{Bool, List, ℕ, ◌+◌, ◌-◌, eqb, ltb, ℤ, set, if◌then◌else◌}
 use Rattle.model.specs.declared.Edition.{Edition}
 use Rattle.model.specs.declared.Edition.TheVariants.{Y2013, Y1999}
 use Rattle.line_fields.specs.declared.Fault.{Fault}

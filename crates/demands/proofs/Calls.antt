@@ -10,6 +10,7 @@
 --     all_placed              each call gives each number at the place that the table has for it (Placed.antt)
 --     shown-as-given          demand 2 of the exported pair: a row that zl_write_row takes is the one that zl_row shows with the places that it was given in
 -- Assumes nothing.
+use Rattle.std.specs.Prelude.{if◌then◌else◌}
 use mathlib.Core.Path.{◌≡◌, refl, sym, ap, ◌∙◌}
 use mathlib.Core.Logic.{◌⊎◌, inl, inr}
 use mathlib.Core.Bool.{Bool, true, false}
@@ -20,7 +21,6 @@ use borrow.Author.Tests.{eqb-true, leb-true}
 use lib.Dec.{lit≤, eqb, leb}
 use lib.IntN.{ℤ}
 use lib.ListN.{length, take, drop}
-use Rattle.ground.specs.Choice.{if◌then◌else◌}
 use Rattle.ground.specs.Said.{Said, says, refuses, ◌>>=◌, ◌>>◌, must, over}
 use Rattle.ground.proofs.Cases.{on_test, clash}
 use Rattle.ground.proofs.SaidLaws.{must-told, must-holds, bind-told, no_byte, only-told}

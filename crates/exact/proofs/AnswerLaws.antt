@@ -7,10 +7,10 @@
 --     range_none                              out of range is what has the form and is no value
 --     value-alone, form-alone, range-alone    the same where the form says the value itself
 -- Assumes nothing.
+use Rattle.std.specs.Prelude.{if◌then◌else◌}
 use mathlib.Core.Path.{◌≡◌, refl, sym, subst, ◌∙◌}
 use mathlib.Core.Logic.{◌↔◌, ◌⊎◌, inl, inr}
 use mathlib.Core.Bool.{Bool, true}
-use Rattle.ground.specs.Choice.{if◌then◌else◌}
 use Rattle.ground.proofs.Cases.{on_test, clash}
 
 pub other-told : {F P : Type 0} → F ⊎ P → (P → F → ⊥) → F ↔ (P → ⊥)

@@ -4,6 +4,7 @@
 --     plain-written                a plain text with given rows is what is written of them
 --     plain-there                  and what is written is one
 -- Assumes nothing.
+use Rattle.std.specs.Prelude.{if◌then◌else◌}
 use mathlib.Core.Path.{◌≡◌, refl, sym, ap, subst, ◌∙◌}
 use mathlib.Core.Logic.{◌↔◌, inl, inr}
 use mathlib.Core.Bool.{true, false, not, ◌||◌}
@@ -14,7 +15,6 @@ use borrow.Author.Tests.{eq-eqb, ne_eqb, eqb-true, eqb-false, leb-true}
 use lib.Dec.{eqb, leb}
 use lib.IntN.{ℤ, pos}
 use lib.ListN.{length, get_or}
-use Rattle.ground.specs.Choice.{if◌then◌else◌}
 use Rattle.ground.specs.Quoted.{quoted}
 use Rattle.ground.specs.Tables.{every}
 use Rattle.ground.proofs.Cases.{on_test, clash}

@@ -6,6 +6,7 @@
 --     lines-front        lines in a row, the first of them at the front
 --     text-exactly       a file is accepted as text, and its rows are r 0, r 1, .., exactly when it is the text of these rows
 -- Assumes nothing.
+use Rattle.std.specs.Prelude.{if◌then◌else◌}
 use mathlib.Core.Path.{◌≡◌, refl, sym, ap, subst, ◌∙◌}
 use mathlib.Core.Logic.{◌↔◌, ◌⊎◌, inl, inr}
 use mathlib.Core.Bool.{Bool, true, false, ◌&&◌}
@@ -19,7 +20,6 @@ use lib.Dec.{eqb}
 use lib.IntN.{ℤ, pos}
 use lib.ListN.{length, get_or, take, drop}
 use lib.Seq.{take-append_seam, drop-append-add, length-take-le}
-use Rattle.ground.specs.Choice.{if◌then◌else◌}
 use Rattle.ground.specs.Quoted.{quoted}
 use Rattle.ground.specs.Said.{says}
 use Rattle.ground.specs.Tables.{cat}

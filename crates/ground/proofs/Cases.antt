@@ -4,6 +4,7 @@
 --     if-and        a choice by two tests at once is a choice in a choice
 --     clash         from a false equation anything follows
 -- Assumes nothing.
+use Rattle.std.specs.Prelude.{if◌then◌else◌}
 use mathlib.Core.Path.{◌≡◌, refl}
 use mathlib.Core.Logic.{◌⊎◌, inl, inr}
 use mathlib.Core.Bool.{Bool, true, false, ◌&&◌}
@@ -11,7 +12,6 @@ use Prim.Native.Nat.{ℕ, ◌<◌, ◌≤◌}
 use native.Mathlib.Omega.{arith}
 use lib.Dec.{ltb}
 use borrow.Author.Tests.{ltb-true, ltb-false}
-use Rattle.ground.specs.Choice.{if◌then◌else◌}
 
 -- `on_test (eqb b 44) (λ e. rw (f, e) ..) (λ e. rw (f, e) ..)`
 pub on_test : {C : Type 0} (t : Bool) → (t ≡ true → C) → (t ≡ false → C) → C

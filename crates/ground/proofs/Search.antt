@@ -5,13 +5,13 @@
 --     fail-first                what is found fails the test, and each place before it holds it
 --     same-fail                 the search looks at no place but those that it is given
 -- Assumes nothing.
+use Rattle.std.specs.Prelude.{if◌then◌else◌}
 use mathlib.Core.Path.{◌≡◌, ◌∙◌}
 use mathlib.Core.Bool.{Bool, true, false}
 use mathlib.Core.Logic.{⊎_elim}
 use Prim.Native.Nat.{ℕ, zero, suc, ◌+◌, ◌-◌, ◌<◌, ◌≤◌}
 use native.Mathlib.Nat.{add-zero}
 use native.Mathlib.Omega.{arith}
-use Rattle.ground.specs.Choice.{if◌then◌else◌}
 use Rattle.ground.specs.Search.{fails_from, first_fail}
 use Rattle.ground.proofs.Cases.{on_test, lt-or-ge}
 

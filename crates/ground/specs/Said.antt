@@ -1,6 +1,5 @@
 -- What a rule says of its input, or why it refuses it. A rule is a do block over this, read from the top in the order of the refusals.
-use Rattle.std.specs.Prelude.{Bool, List, ◌++◌, length, drop}
-use Rattle.ground.specs.Choice.{if◌then◌else◌}
+use Rattle.std.specs.Prelude.{Bool, List, ◌++◌, length, drop, if◌then◌else◌}
 
 infixl 20 ◌>>=◌
 infixl 20 ◌>>◌

@@ -1,6 +1,5 @@
 -- One search: the first place of which a test fails.
-use Rattle.std.specs.Prelude.{Bool, ℕ, zero, suc, ◌+◌}
-use Rattle.ground.specs.Choice.{if◌then◌else◌}
+use Rattle.std.specs.Prelude.{Bool, ℕ, zero, suc, ◌+◌, if◌then◌else◌}
 
 -- the first place from i on, of m places, of which the test fails, or i + m
 abbrev pub fails_from : (ℕ → Bool) → ℕ → ℕ → ℕ

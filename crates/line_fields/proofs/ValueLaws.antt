@@ -3,6 +3,7 @@
 --     quality-small, leap-small            time quality and leap second code
 --     number_is, number-told               a number that was read, as the code tells it, and where it is said
 -- Assumes nothing.
+use Rattle.std.specs.Prelude.{if◌then◌else◌}
 use mathlib.Core.Path.{◌≡◌, refl}
 use mathlib.Core.Bool.{true, not}
 use mathlib.Core.List.{List, [], ◌∷◌}
@@ -11,7 +12,6 @@ use native.Mathlib.Omega.{arith}
 use borrow.Author.Tests.{ltb-false, eqb-true, leb-true}
 use lib.Dec.{ltb, eqb, leb}
 use lib.ListN.{length, get_or, take}
-use Rattle.ground.specs.Choice.{if◌then◌else◌}
 use Rattle.ground.specs.Said.{says, refuses}
 use Rattle.ground.specs.Quoted.{quoted}
 use Rattle.ground.specs.Tables.{every}

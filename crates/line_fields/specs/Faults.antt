@@ -1,6 +1,5 @@
 -- What is wrong with a field, as the paper's number: 0 where it is fine, 5 for its form, 6 for a value that is not allowed.
-use Rattle.std.specs.Prelude.{Bool, List, ℕ, eqb, length}
-use Rattle.ground.specs.Choice.{if◌then◌else◌}
+use Rattle.std.specs.Prelude.{Bool, List, ℕ, eqb, length, if◌then◌else◌}
 use Rattle.numerals.specs.declared.Count.{Count}
 use Rattle.numerals.specs.declared.Count.TheVariants as count
 use Rattle.numerals.specs.Counts.{length_in, read_count}

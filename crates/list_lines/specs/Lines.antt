@@ -1,6 +1,5 @@
 -- The lines of a listing: the first line, the line of a row, the line of a refusal.
-use Rattle.std.specs.Prelude.{Bool, List, [], ◌∷◌, ◌++◌, ℕ, ◌+◌}
-use Rattle.ground.specs.Choice.{if◌then◌else◌}
+use Rattle.std.specs.Prelude.{Bool, List, [], ◌∷◌, ◌++◌, ℕ, ◌+◌, if◌then◌else◌}
 use Rattle.ground.specs.Tables.{cat}
 use Rattle.ground.specs.Quoted.{quoted}
 use Rattle.numerals.specs.Decimals.{decimal, plain}

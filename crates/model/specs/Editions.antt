@@ -1,6 +1,5 @@
 -- The editions of the standard: the year by which a configuration names its edition, and the kinds that each has.
-use Rattle.std.specs.Prelude.{Bool, true, false, ℕ, eqb}
-use Rattle.ground.specs.Choice.{if◌then◌else◌}
+use Rattle.std.specs.Prelude.{Bool, true, false, ℕ, eqb, if◌then◌else◌}
 use Rattle.model.specs.declared.Kind.{Kind}
 use Rattle.model.specs.declared.Kind.TheVariants.{Ascii, Binary, Binary32}
 use Rattle.model.specs.declared.Edition.{Edition}

@@ -1,6 +1,5 @@
 -- WHAT A DATA FILE IS and which rows it has. Read second; no reader stands here.
-use Rattle.std.specs.Prelude.{◌≡◌, ◌⊎◌, Bool, true, false, ◌&&◌, List, [], ◌∷◌, ◌++◌, ℕ, ◌+◌, ◌*◌, ◌/◌, ◌%◌, ◌^◌, ◌≤◌, ◌<◌, eqb, ltb, ℤ, pos, ◌+ℤ◌, length, get_or, ◌≤ℤ◌}
-use Rattle.ground.specs.Choice.{if◌then◌else◌}
+use Rattle.std.specs.Prelude.{◌≡◌, ◌⊎◌, Bool, true, false, ◌&&◌, List, [], ◌∷◌, ◌++◌, ℕ, ◌+◌, ◌*◌, ◌/◌, ◌%◌, ◌^◌, ◌≤◌, ◌<◌, eqb, ltb, ℤ, pos, ◌+ℤ◌, length, get_or, ◌≤ℤ◌, if◌then◌else◌}
 use Rattle.ground.specs.Quoted.{quoted}
 use Rattle.ground.specs.Tables.{part, cat}
 use Rattle.model.specs.declared.Kind.{Kind}

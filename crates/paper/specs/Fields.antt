@@ -1,8 +1,7 @@
 -- WHAT A FIELD IS: its characters, and the number, date or word that they say. Read last; no reader stands here.
 -- A character is its byte; `quoted` gives the bytes of a text.
-use Rattle.std.specs.Prelude.{◌≡◌, ◌⊎◌, Bool, true, ◌&&◌, List, [], ◌∷◌, ◌++◌, ℕ, zero, suc, ◌+◌, ◌-◌, ◌*◌, ◌%◌, ◌^◌, ◌≤◌, eqb, leb, ℤ, pos, neg_ℤ, nat_abs, length, get_or, replicate, ◌≤ℤ◌}
+use Rattle.std.specs.Prelude.{◌≡◌, ◌⊎◌, Bool, true, ◌&&◌, List, [], ◌∷◌, ◌++◌, ℕ, zero, suc, ◌+◌, ◌-◌, ◌*◌, ◌%◌, ◌^◌, ◌≤◌, eqb, leb, ℤ, pos, neg_ℤ, nat_abs, length, get_or, replicate, ◌≤ℤ◌, if◌then◌else◌}
 use Prim.Native.String.{String}
-use Rattle.ground.specs.Choice.{if◌then◌else◌}
 use Rattle.ground.specs.Quoted.{quoted}
 use Rattle.ground.specs.Tables.{every}
 use Rattle.clock.specs.declared.Date.{Date}

@@ -4,6 +4,7 @@
 --     between-bounds, between_is       what a number between bounds is, as an order
 --     chosen                         which way a choice in a choice went
 -- Assumes nothing.
+use Rattle.std.specs.Prelude.{if◌then◌else◌}
 use mathlib.Core.Path.{◌≡◌, refl, ap}
 use mathlib.Core.Bool.{Bool, true, false}
 use mathlib.Core.List.{List, [], ◌∷◌}
@@ -13,7 +14,6 @@ use native.Mathlib.Omega.{arith}
 use borrow.Author.Tests.{leb-true, le-leb}
 use lib.Dec.{leb, lit<}
 use lib.ListN.{length}
-use Rattle.ground.specs.Choice.{if◌then◌else◌}
 use Rattle.ground.specs.Tables.{part}
 use Rattle.ground.proofs.Cases.{on_test}
 use Rattle.ground.proofs.Every.{and_split, and-join}

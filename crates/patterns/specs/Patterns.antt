@@ -1,6 +1,5 @@
 -- Patterns of characters, the digits at a place, and a number between two others.
-use Rattle.std.specs.Prelude.{ℕ, Bool, true, false, ◌&&◌, List, [], ◌∷◌, eqb, leb}
-use Rattle.ground.specs.Choice.{if◌then◌else◌}
+use Rattle.std.specs.Prelude.{ℕ, Bool, true, false, ◌&&◌, List, [], ◌∷◌, eqb, leb, if◌then◌else◌}
 use Rattle.ground.specs.Tables.{part}
 use Rattle.numerals.specs.Counts.{is_digit, number_of, count_in}
 

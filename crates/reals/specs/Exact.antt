@@ -1,7 +1,6 @@
 -- Exact decimals: the number of a real of at most 13 characters, its bound, its order. Numbers are told 10 ^ 1100 times as large, so that they are whole.
-use Rattle.std.specs.Prelude.{ℕ, ◌+◌, ◌-◌, ◌*◌, ◌^◌, ◌<◌, ◌≤◌, List, [], ◌∷◌, Bool, leb, ℤ, pos, neg_ℤ, take, drop}
+use Rattle.std.specs.Prelude.{ℕ, ◌+◌, ◌-◌, ◌*◌, ◌^◌, ◌<◌, ◌≤◌, List, [], ◌∷◌, Bool, leb, ℤ, pos, neg_ℤ, take, drop, if◌then◌else◌}
 use Rattle.std.specs.Int.Signed.{lt_z}
-use Rattle.ground.specs.Choice.{if◌then◌else◌}
 use Rattle.numerals.specs.declared.Count.{Count}
 use Rattle.numerals.specs.declared.Count.TheVariants as count
 use Rattle.numerals.specs.Counts.{length_in, is_digit, leading_spaces}

@@ -1,6 +1,5 @@
 -- Reals: leading spaces, an optional sign, a mantissa of digits with or without a point, an optional exponent; and their sign, read off the characters.
-use Rattle.std.specs.Prelude.{ℕ, suc, ◌+◌, ◌-◌, List, [], ◌∷◌, Bool, ◌&&◌, ◌||◌, ltb, eqb, take, drop}
-use Rattle.ground.specs.Choice.{if◌then◌else◌}
+use Rattle.std.specs.Prelude.{ℕ, suc, ◌+◌, ◌-◌, List, [], ◌∷◌, Bool, ◌&&◌, ◌||◌, ltb, eqb, take, drop, if◌then◌else◌}
 use Rattle.ground.specs.Tables.{every}
 use Rattle.numerals.specs.declared.Count.{Count}
 use Rattle.numerals.specs.declared.Count.TheVariants.{Is, Form}

@@ -1,6 +1,5 @@
 -- What each refusal's number means, as text that a panel can show.
-use Rattle.std.specs.Prelude.{List, ℕ, eqb, leb, length}
-use Rattle.ground.specs.Choice.{if◌then◌else◌}
+use Rattle.std.specs.Prelude.{List, ℕ, eqb, leb, length, if◌then◌else◌}
 use Rattle.ground.specs.Quoted.{quoted}
 use Rattle.ground.specs.Said.{Said, says, refuses, ◌>>=◌, ◌>>◌, must}
 use Rattle.model.specs.declared.Refusal.{Refusal}

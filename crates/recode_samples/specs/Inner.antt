@@ -1,7 +1,6 @@
 -- NOTHING TO BELIEVE HERE: no contract of a public call cites this. Law `row-recoded` (crates/recode/proofs/RowLaws.antt) says that samples that are recoded are those of the row.
 -- A sample goes through three definitions alone: the place that bytes say, whether it can be written, and the bytes of a place.
-use Rattle.std.specs.Prelude.{◌≡◌, Bool, List, ℕ, zero, suc, ◌+◌, ◌*◌, ℤ}
-use Rattle.ground.specs.Choice.{if◌then◌else◌}
+use Rattle.std.specs.Prelude.{◌≡◌, Bool, List, ℕ, zero, suc, ◌+◌, ◌*◌, ℤ, if◌then◌else◌}
 use Rattle.ground.specs.Tables.{part, tab, cat}
 use Rattle.words.specs.Words.{word_of, word_bytes}
 use Rattle.model.specs.declared.Kind.{Kind}

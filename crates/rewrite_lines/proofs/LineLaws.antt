@@ -9,8 +9,6 @@ use mathlib.Core.Bool.{true}
 use mathlib.Core.List.{List, [], ◌∷◌}
 use Prim.Native.Nat.{ℕ, ◌≤◌}
 use native.Mathlib.Omega.{arith}
-use types.Run.{OneOf, miss}
-use denote.Enum.Declared.{tag_of}
 use lib.ListN.{length}
 use Rattle.text.specs.Lines.{line_bytes}
 use Rattle.model.specs.declared.Kind.{Kind}
@@ -19,21 +17,16 @@ use Rattle.model.specs.Kinds.{kind_name}
 use Rattle.rewrite_lines.specs.declared.LineSort.{LineSort}
 use Rattle.rewrite_lines.specs.declared.LineSort.TheVariants.{Kept, Numbers, Analog, Status, Word}
 use Rattle.rewrite_lines.specs.Lines.{fields_text, line_text}
-use Rattle.rewrite_lines.specs.contracts.LineSort.{the_type}
 use Rattle.rewrite_lines.proofs.FieldLaws.{fields-again, bytes-text}
 use Rattle.rewrite_lines.proofs.WalkLaws.{fields-short}
 
--- the sorts that a match on Kept and Word leaves
-abbrev pub others : List ℕ
-others = 1 ∷ 2 ∷ 3 ∷ []
-
-pub text-others : (k : Kind) (sort : LineSort) (x : List ℕ) → OneOf others (tag_of the_type sort) → line_text k sort x ≡ fields_text sort x
+pub text-others : (k : Kind) (sort : LineSort) (x : List ℕ) → (sort ≡ Kept → ⊥) → (sort ≡ Word → ⊥) → line_text k sort x ≡ fields_text sort x
 unfolding line_text
-text-others k Kept x h = absurd (miss others 0 tt h)
-text-others k Numbers x h = refl
-text-others k Analog x h = refl
-text-others k Status x h = refl
-text-others k Word x h = absurd (miss others 4 tt h)
+text-others k Kept x stays becomes = absurd (stays refl)
+text-others k Numbers x stays becomes = refl
+text-others k Analog x stays becomes = refl
+text-others k Status x stays becomes = refl
+text-others k Word x stays becomes = absurd (becomes refl)
 
 pub text-line-short : (k : Kind) (sort : LineSort) (x : List ℕ) → (sort ≡ Word → ⊥) → length (line_text k sort x) ≤ length x
 unfolding line_text

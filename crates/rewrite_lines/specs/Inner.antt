@@ -1,6 +1,5 @@
 -- NOTHING TO BELIEVE HERE: the fields of a line in one walk over its bytes, as the code goes. The law `walked-fields` (proofs/WalkLaws.antt) says that they are `fields_text`.
-use Rattle.std.specs.Prelude.{Bool, ◌&&◌, List, [], ◌∷◌, ℕ, ◌+◌, eqb}
-use Rattle.ground.specs.Choice.{if◌then◌else◌}
+use Rattle.std.specs.Prelude.{Bool, ◌&&◌, List, [], ◌∷◌, ℕ, ◌+◌, eqb, if◌then◌else◌}
 use Rattle.rewrite_lines.specs.declared.LineSort.{LineSort}
 use Rattle.rewrite_lines.specs.Lines.{is_number}
 

@@ -1,6 +1,5 @@
 -- A line of a configuration as it is written again: numbers and codes lose their leading spaces, the kind's line is its word, and all else stays as it stands.
-use Rattle.std.specs.Prelude.{Bool, true, false, ◌&&◌, ◌||◌, List, ℕ, ◌+◌, eqb, leb, drop}
-use Rattle.ground.specs.Choice.{if◌then◌else◌}
+use Rattle.std.specs.Prelude.{Bool, true, false, ◌&&◌, ◌||◌, List, ℕ, ◌+◌, eqb, leb, drop, if◌then◌else◌}
 use Rattle.text.specs.Fields.{commas, field_at, joined}
 use Rattle.numerals.specs.Counts.{leading_spaces}
 use Rattle.model.specs.declared.Kind.{Kind}

@@ -1,30 +1,24 @@
 -- Laws of what is said by the kind.
 --     text-kind                   text
---     binary-arm, not-text, binary-kind     the two binary kinds, by their places among the kinds, or as those that are not text
+--     binary-arm, not-text, binary-kind     the two binary kinds, by the two, or as those that are not text
 --     by-kind                     text or one of the binary kinds
 -- Assumes nothing.
 use mathlib.Core.Path.{◌≡◌, refl, ap}
-use mathlib.Core.Logic.{⊎_elim}
-use mathlib.Core.List.{[], ◌∷◌}
+use mathlib.Core.Logic.{◌⊎◌, ⊎_elim}
 use Prim.Native.Nat.{ℕ}
 use native.Mathlib.Omega.{arith}
-use denote.Enum.Declared.{tag_of}
-use types.Run.{OneOf}
-use Rattle.model.specs.contracts.Kind.{the_type}
 use Rattle.model.specs.declared.Kind.{Kind}
 use Rattle.model.specs.declared.Kind.TheVariants.{Ascii, Binary, Binary32}
 use Rattle.model.specs.Kinds.{kind_number}
 use Rattle.row_bytes.specs.Rows.{by_kind}
 
-pub binary-arm : {A : Type 0} (k : Kind) (text binary : A) → OneOf (1 ∷ (2 ∷ [])) (tag_of the_type k) → by_kind k text binary ≡ binary
-binary-arm Ascii text binary h = ⊎_elim (λ e. absurd (omega arith)) (λ e. absurd (omega arith)) h
-binary-arm Binary text binary h = refl
-binary-arm Binary32 text binary h = refl
+pub binary-arm : {A : Type 0} (k : Kind) (text binary : A) → (k ≡ Binary) ⊎ (k ≡ Binary32) → by_kind k text binary ≡ binary
+binary-arm k text binary h = ⊎_elim (λ e. rw e) (λ e. rw e) h
 
 pub text-kind : {A : Type 0} (k : Kind) (text binary : A) → k ≡ Ascii → by_kind k text binary ≡ text
 text-kind k text binary e = rw e
 
-pub not-text : (k : Kind) → OneOf (1 ∷ (2 ∷ [])) (tag_of the_type k) → k ≡ Ascii → ⊥
+pub not-text : (k : Kind) → (k ≡ Binary) ⊎ (k ≡ Binary32) → k ≡ Ascii → ⊥
 not-text k h e = omega (arith, binary-arm {A = ℕ} k 0 1 h, text-kind {A = ℕ} k 0 1 e)
 
 pub binary-kind : {A : Type 0} (k : Kind) (text binary : A) → (k ≡ Ascii → ⊥) → by_kind k text binary ≡ binary

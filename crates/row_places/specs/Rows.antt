@@ -1,8 +1,7 @@
 -- A row as places: its time, its samples, its statuses, each a whole number; a missing sample is the number for "there is none".
-use Rattle.std.specs.Prelude.{Bool, not, ◌&&◌, ◌||◌, List, ◌∷◌, ◌++◌, ℕ, ◌+◌, ltb, leb, ℤ, pos, nat_abs, get_or}
+use Rattle.std.specs.Prelude.{Bool, not, ◌&&◌, ◌||◌, List, ◌∷◌, ◌++◌, ℕ, ◌+◌, ltb, leb, ℤ, pos, nat_abs, get_or, if◌then◌else◌}
 use Rattle.std.proofs.Math.Bool as bool
 use Rattle.std.specs.Int.Signed.{lt_z}
-use Rattle.ground.specs.Choice.{if◌then◌else◌}
 use Rattle.ground.specs.Search.{first_fail}
 use Rattle.ground.specs.Tables.{tab, padded}
 use Rattle.model.specs.declared.Layout.{Layout}

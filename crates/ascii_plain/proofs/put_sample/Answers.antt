@@ -40,28 +40,22 @@ slice_bounds-put_missing-start c = simp length-set (omega arith)
 pub put_missing-requires : goal.put_missing-requires
 put_missing-requires c = rw (rest, length-drop, length-set, ← none (goal.at.put_missing-requires c).Then-is_missing) (omega (arith, c.requires))
 
--- what fills the rest where the sample is missing
-abbrev missing-from : After-slice_known-then-is_missing-1 → Start
-missing-from c = c.before.before.before.before.before.before.before
-
 tested-after-slice_known-then-is_missing-1 : (c : After-slice_known-then-is_missing-1) → is_missing c.args.z ≡ c.is_missing.result
 tested-after-slice_known-then-is_missing-1 c = sym (c.is_missing.ensures ∙ ap is_missing (to_z-of_z w32 c.args.z c.ranges.z))
 
 none-after-slice_known-then-is_missing-1 : (c : After-slice_known-then-is_missing-1) → sample_chars c.args.layout c.args.z ≡ missing_chars c.args.layout
 none-after-slice_known-then-is_missing-1 c = chars-missing c.args.layout c.args.z (tested-after-slice_known-then-is_missing-1 c ∙ c.if-is_missing.true)
 
-filled-missing : (c : After-slice_known-then-is_missing-1) → c.put_missing.new.d ≡ sample_chars (missing-from c).args.layout (missing-from c).args.z
+filled-missing : (c : After-slice_known-then-is_missing-1) → c.put_missing.new.d ≡ sample_chars c.args.layout c.args.z
 filled-missing c = c.put_missing.ensures ∙ sym (none-after-slice_known-then-is_missing-1 c)
 
 pub shape_of-d-then-is_missing : goal.shape_of-d-then-is_missing
 shape_of-d-then-is_missing c =
-    let s = missing-from c in
-    rw (put_first s.args.d.now c.put_missing.new.d 44 (omega (arith, s.pre)), filled-missing c) (omega (arith, s.pre))
+    rw (put_first c.args.d.now c.put_missing.new.d 44 (omega (arith, c.requires)), filled-missing c) (omega (arith, c.requires))
 
 pub returns-then-is_missing : goal.returns-then-is_missing
 returns-then-is_missing c =
-    let s = missing-from c in
-    put_first s.args.d.now c.put_missing.new.d 44 (omega (arith, s.pre)) ∙ rw (filled-missing c)
+    put_first c.args.d.now c.put_missing.new.d 44 (omega (arith, c.requires)) ∙ rw (filled-missing c)
 
 pub slice_bounds-put_plain-count : goal.slice_bounds-put_plain-count
 slice_bounds-put_plain-count c = simp length-set (omega arith)
@@ -76,10 +70,6 @@ back c = widened-back c.args.z c.widened.result c.ranges.z c.widened.ensures
 pub put_plain-requires : goal.put_plain-requires
 put_plain-requires c = rw (rest, length-drop, length-set, back c, ← there (goal.at.put_plain-requires c).Else-is_missing) (omega (arith, c.requires))
 
--- what fills the rest
-abbrev plain-from : After-slice_known-2-1 → Start
-plain-from c = c.before.before.before.before.before.before.before.before
-
 back-after-slice_known-2-1 : (c : After-slice_known-2-1) → to_z w64 (of_z w64 c.widened.result) ≡ c.args.z
 back-after-slice_known-2-1 c = widened-back c.args.z c.widened.result c.ranges.z c.widened.ensures
 
@@ -89,15 +79,13 @@ tested-after-slice_known-2-1 c = sym (c.is_missing.ensures ∙ ap is_missing (to
 there-after-slice_known-2-1 : (c : After-slice_known-2-1) → sample_chars c.args.layout c.args.z ≡ plain c.args.z
 there-after-slice_known-2-1 c = chars-there c.args.layout c.args.z (tested-after-slice_known-2-1 c ∙ c.if-is_missing.false)
 
-filled : (c : After-slice_known-2-1) → c.put_plain.new.d ≡ sample_chars (plain-from c).args.layout (plain-from c).args.z
+filled : (c : After-slice_known-2-1) → c.put_plain.new.d ≡ sample_chars c.args.layout c.args.z
 filled c = c.put_plain.ensures ∙ ap plain (back-after-slice_known-2-1 c) ∙ sym (there-after-slice_known-2-1 c)
 
 pub shape_of-d : goal.shape_of-d
 shape_of-d c =
-    let s = plain-from c in
-    rw (put_first s.args.d.now c.put_plain.new.d 44 (omega (arith, s.pre)), filled c) (omega (arith, s.pre))
+    rw (put_first c.args.d.now c.put_plain.new.d 44 (omega (arith, c.requires)), filled c) (omega (arith, c.requires))
 
 pub returns : goal.returns
 returns c =
-    let s = plain-from c in
-    put_first s.args.d.now c.put_plain.new.d 44 (omega (arith, s.pre)) ∙ rw (filled c)
+    put_first c.args.d.now c.put_plain.new.d 44 (omega (arith, c.requires)) ∙ rw (filled c)

@@ -40,9 +40,7 @@ check_row-requires c =
 -- what row i says
 abbrev here : After-check_row → Said Refusal (Unit {0})
 here c =
-    let p = c.before.before.before in
-    let a = p.before.before.before.args in
-    check_row a.layout (p.loop.i + 1) (row_bytes a.layout p.loop.i a.«data».now)
+    check_row c.args.layout (c.loop-i.i + 1) (row_bytes c.args.layout c.loop-i.i c.args.«data».now)
 
 answered : (c : After-check_row) → answer_of (here c) ≡ c.check_row.result
 answered c = sym (c.check_row.ensures ∙ rw c.row_size-size.ensures)

@@ -5,7 +5,7 @@ use Rattle.binary_file.specs.Files.{check_rows}
 use Rattle.binary_file.proofs.check_rows.Given as goal
 
 abbrev pub invariant-loop-i : goal.invariant-loop-i
-invariant-loop-i l = (l.i ≤ l.layout.rows) × (check_rows l.layout l.data l.i (layout'.rows - l.i) ≡ check_rows layout' l.data 0 layout'.rows)
+invariant-loop-i l = (l.i ≤ l.layout.rows) × (check_rows l.layout l.data l.i (l.layout.rows - l.i) ≡ check_rows l.layout l.data 0 l.layout.rows)
 
 abbrev pub decreases-loop-i : goal.decreases-loop-i
 decreases-loop-i l = l.rows - l.i

@@ -7,7 +7,7 @@ use Rattle.patterns.specs.Patterns.{fits_pattern}
 use Rattle.patterns.proofs.PatternLaws.{fits-length}
 use Rattle.codes.specs.Codes.{hours_and_minutes}
 use Rattle.codes.proofs.hours_and_minutes.Goals as goal
-use Rattle.codes.proofs.hours_and_minutes.Goals.{After-fits_pattern-arg-3-1, Else-fits_pattern, Then-fits_pattern, Then-fits_pattern-2}
+use Rattle.codes.proofs.hours_and_minutes.Goals.{Else-fits_pattern, Then-fits_pattern, Then-fits_pattern-2}
 
 -- which pattern fits_pattern, and which does not
 first : (c : Then-fits_pattern) → fits_pattern (quoted "dhdd") c.args.s.now ≡ true
@@ -20,7 +20,7 @@ second : (c : Then-fits_pattern-2) → fits_pattern (quoted "ddhdd") c.args.s.no
 second c = sym c.fits_pattern-2.ensures ∙ c.if-fits_pattern-2.true
 
 pub digits_at-requires : goal.digits_at-requires
-digits_at-requires c = omega (arith, fits-length (quoted "dhdd") _ (first (goal.at.digits_at-requires c).Then-fits_pattern))
+digits_at-requires c = omega (arith, fits-length (quoted "dhdd") _ (first c))
 
 pub digits_at-requires-then-fits_pattern : goal.digits_at-requires-then-fits_pattern
 digits_at-requires-then-fits_pattern c = omega (arith, fits-length (quoted "dhdd") _ (first (goal.at.digits_at-requires-then-fits_pattern c).Then-fits_pattern))
@@ -30,7 +30,7 @@ unfolding hours_and_minutes
 returns-then-fits_pattern c = rw (c.minutes_of.ensures, c.digits_at.ensures, c.digits_at-then-fits_pattern.ensures, first (goal.at.returns-then-fits_pattern c).Then-fits_pattern)
 
 pub digits_at-requires-then-fits_pattern-2 : goal.digits_at-requires-then-fits_pattern-2
-digits_at-requires-then-fits_pattern-2 c = omega (arith, fits-length (quoted "ddhdd") _ (second (goal.at.digits_at-requires-then-fits_pattern-2 c).Then-fits_pattern-2))
+digits_at-requires-then-fits_pattern-2 c = omega (arith, fits-length (quoted "ddhdd") _ (second c))
 
 pub digits_at-requires-then-fits_pattern-2-2 : goal.digits_at-requires-then-fits_pattern-2-2
 digits_at-requires-then-fits_pattern-2-2 c = omega (arith, fits-length (quoted "ddhdd") _ (second (goal.at.digits_at-requires-then-fits_pattern-2-2 c).Then-fits_pattern-2))
@@ -38,8 +38,8 @@ digits_at-requires-then-fits_pattern-2-2 c = omega (arith, fits-length (quoted "
 pub returns-then-fits_pattern-2 : goal.returns-then-fits_pattern-2
 unfolding hours_and_minutes
 returns-then-fits_pattern-2 c =
-    rw (c.minutes_of-then-fits_pattern-2.ensures, c.digits_at-then-fits_pattern-2.ensures, c.digits_at-then-fits_pattern-2-2.ensures, not_first (goal.at.returns-then-fits_pattern-2 c).After-fits_pattern-arg-3-1, second (goal.at.returns-then-fits_pattern-2 c).Then-fits_pattern-2)
+    rw (c.minutes_of-then-fits_pattern-2.ensures, c.digits_at-then-fits_pattern-2.ensures, c.digits_at-then-fits_pattern-2-2.ensures, not_first (goal.at.returns-then-fits_pattern-2 c).Else-fits_pattern, second (goal.at.returns-then-fits_pattern-2 c).Then-fits_pattern-2)
 
 pub returns : goal.returns
 unfolding hours_and_minutes
-returns c = rw (not_first (goal.at.returns c).After-fits_pattern-arg-3-1, ← c.fits_pattern-2.ensures, c.if-fits_pattern-2.false)
+returns c = rw (not_first (goal.at.returns c).Else-fits_pattern, ← c.fits_pattern-2.ensures, c.if-fits_pattern-2.false)

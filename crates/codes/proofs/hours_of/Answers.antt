@@ -7,7 +7,7 @@ use Rattle.patterns.specs.Patterns.{fits_pattern}
 use Rattle.patterns.proofs.PatternLaws.{fits-length}
 use Rattle.codes.specs.Codes.{hours_of}
 use Rattle.codes.proofs.hours_of.Goals as goal
-use Rattle.codes.proofs.hours_of.Goals.{After-fits_pattern-arg-3-1, Else-fits_pattern, Then-fits_pattern, Then-fits_pattern-2}
+use Rattle.codes.proofs.hours_of.Goals.{Else-fits_pattern, Then-fits_pattern, Then-fits_pattern-2}
 
 -- which pattern fits_pattern, and which does not
 first : (c : Then-fits_pattern) → fits_pattern (quoted "d") c.args.s.now ≡ true
@@ -20,21 +20,21 @@ second : (c : Then-fits_pattern-2) → fits_pattern (quoted "dd") c.args.s.now �
 second c = sym c.fits_pattern-2.ensures ∙ c.if-fits_pattern-2.true
 
 pub digits_at-requires : goal.digits_at-requires
-digits_at-requires c = omega (arith, fits-length (quoted "d") _ (first (goal.at.digits_at-requires c).Then-fits_pattern))
+digits_at-requires c = omega (arith, fits-length (quoted "d") _ (first c))
 
 pub returns-then-fits_pattern : goal.returns-then-fits_pattern
 unfolding hours_of
 returns-then-fits_pattern c = rw (c.minutes_of.ensures, c.digits_at.ensures, first (goal.at.returns-then-fits_pattern c).Then-fits_pattern)
 
 pub digits_at-requires-then-fits_pattern-2 : goal.digits_at-requires-then-fits_pattern-2
-digits_at-requires-then-fits_pattern-2 c = omega (arith, fits-length (quoted "dd") _ (second (goal.at.digits_at-requires-then-fits_pattern-2 c).Then-fits_pattern-2))
+digits_at-requires-then-fits_pattern-2 c = omega (arith, fits-length (quoted "dd") _ (second c))
 
 pub returns-then-fits_pattern-2 : goal.returns-then-fits_pattern-2
 unfolding hours_of
 returns-then-fits_pattern-2 c =
-    rw (c.minutes_of-then-fits_pattern-2.ensures, c.digits_at-then-fits_pattern-2.ensures, not_first (goal.at.returns-then-fits_pattern-2 c).After-fits_pattern-arg-3-1, second (goal.at.returns-then-fits_pattern-2 c).Then-fits_pattern-2)
+    rw (c.minutes_of-then-fits_pattern-2.ensures, c.digits_at-then-fits_pattern-2.ensures, not_first (goal.at.returns-then-fits_pattern-2 c).Else-fits_pattern, second (goal.at.returns-then-fits_pattern-2 c).Then-fits_pattern-2)
 
 pub returns : goal.returns
 unfolding hours_of
 returns c =
-    rw (c.hours_and_minutes.ensures, not_first (goal.at.returns c).After-fits_pattern-arg-3-1, ← c.fits_pattern-2.ensures, c.if-fits_pattern-2.false)
+    rw (c.hours_and_minutes.ensures, not_first (goal.at.returns c).Else-fits_pattern, ← c.fits_pattern-2.ensures, c.if-fits_pattern-2.false)

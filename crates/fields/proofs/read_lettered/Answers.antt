@@ -8,7 +8,7 @@ use lib.Seq.{length-take-le}
 use Rattle.numerals.proofs.CountLaws.{length-bounds}
 use Rattle.fields.specs.Fields.{read_lettered}
 use Rattle.fields.proofs.read_lettered.Goals as goal
-use Rattle.fields.proofs.read_lettered.Goals.{After-length_in, Else-not-length_in}
+use Rattle.fields.proofs.read_lettered.Goals.{Else-not-length_in}
 
 pub returns-then-not-length_in : goal.returns-then-not-length_in
 unfolding read_lettered
@@ -19,7 +19,7 @@ long : (c : Else-not-length_in) → (2 ≤ length c.args.field.now) × (length c
 long c = length-bounds 2 7 c.args.field.now (sym c.length_in.ensures ∙ c.if-not-length_in.false)
 
 pub overflow_sub-n : goal.overflow_sub-n
-overflow_sub-n c = omega (arith, long (goal.at.overflow_sub-n c).Else-not-length_in)
+overflow_sub-n c = omega (arith, long c)
 
 pub bounds-field-n : goal.bounds-field-n
 bounds-field-n c = omega (arith, long (goal.at.bounds-field-n c).Else-not-length_in)
@@ -29,7 +29,7 @@ unfolding read_lettered
 returns-then-field-n c = rw (← c.length_in.ensures, c.if-not-length_in.false, ne_eqb _ _ c.if-field-n.true)
 
 pub slice_bounds-read_count_in-end : goal.slice_bounds-read_count_in-end
-slice_bounds-read_count_in-end c = sym (length-take-le _ _ (omega (arith, long (goal.at.slice_bounds-read_count_in-end c).After-length_in)))
+slice_bounds-read_count_in-end c = sym (length-take-le _ _ (omega (arith, long (goal.at.slice_bounds-read_count_in-end c).Else-not-length_in)))
 
 pub returns : goal.returns
 unfolding read_lettered

@@ -19,13 +19,12 @@ returns-then-small-word c =
     (rw (ne_eqb _ _ c.if-small-word.true))
 
 pub loop-i-preserved : goal.loop-i-preserved
-loop-i-preserved c =
-    (
-      omega arith,
-      c.loop-i.invariant.1,
-      rw (c.loop-i.invariant.2, here c.args.word.now _ c.loop-i-test.true, here c.args.field.now c.loop-i.i (omega arith), ← c.small.ensures)
-          (rw (eq-eqb _ _ c.if-small-word.false)),
-    )
+loop-i-preserved c = (
+  omega arith,
+  c.loop-i.invariant.1,
+  rw (c.loop-i.invariant.2, here c.args.word.now _ c.loop-i-test.true, here c.args.field.now c.loop-i.i (omega arith), ← c.small.ensures)
+      (rw (eq-eqb _ _ c.if-small-word.false)),
+)
 
 pub returns : goal.returns
 returns c =

@@ -1,4 +1,5 @@
 -- `first_misfit` meets its contract. The loop's invariant: the search from i on finds what the whole search does. The measure is what is left of A.
+use Rattle.std.specs.Prelude.{if◌then◌else◌}
 use mathlib.Core.Path.{◌≡◌, ap, ◌∙◌}
 use Prim.Native.Nat.{◌-◌, ◌+◌}
 use native.Mathlib.Nat.{sub-zero}
@@ -8,7 +9,6 @@ use lib.IntN.{pos}
 use lib.ListN.{get_or}
 use mir.Syntax.{w32}
 use mir.ValLaws.{to_z-of_z}
-use Rattle.ground.specs.Choice.{if◌then◌else◌}
 use Rattle.ground.specs.Search.{fails_from}
 use Rattle.ground.proofs.Search.{fail-step}
 use Rattle.model.specs.Samples.{fits}

@@ -1,8 +1,8 @@
 -- `plain_length` meets its contract: the minus is one character more.
+use Rattle.std.specs.Prelude.{if◌then◌else◌}
 use native.Mathlib.Omega.{arith}
 use mathlib.Core.Path.{◌≡◌}
 use mathlib.Core.List.{◌∷◌}
-use Rattle.ground.specs.Choice.{if◌then◌else◌}
 use Rattle.numerals.specs.Decimals.{decimal, plain}
 use Rattle.numerals.proofs.PlainLaws.{length-decimal-le, plain-told}
 use Rattle.numerals.proofs.plain_length.Goals as goal

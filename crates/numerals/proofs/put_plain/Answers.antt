@@ -1,10 +1,10 @@
 -- `put_plain` meets its contract: the minus is the first character, and the digits of the size fill the rest.
+use Rattle.std.specs.Prelude.{if◌then◌else◌}
 use native.Mathlib.Omega.{arith}
 use mathlib.Core.Path.{◌≡◌, ◌∙◌}
 use mathlib.Core.List.{◌∷◌}
 use Prim.Native.Nat.{◌+◌}
 use lib.ListN.{length, length-set, length-drop}
-use Rattle.ground.specs.Choice.{if◌then◌else◌}
 use Rattle.ground.proofs.Walk.{rest}
 use Rattle.ground.proofs.Parts.{put_first}
 use Rattle.numerals.specs.Decimals.{decimal, plain}

@@ -8,6 +8,7 @@ use Rattle.reasons.specs.Reasons.{reason_of}
 use Rattle.reasons.specs.Inner.{reason_text, reason_texts}
 use Rattle.reasons.proofs.Laws.{reason-told, reason-untold}
 use Rattle.reasons.proofs.put_reason.Goals as goal
+use Rattle.reasons.proofs.put_reason.Goals.{in_default-via-then-number-lt1, in_default-via-else-number-lt1+else-number-lt18}
 
 pub say_from-requires : goal.say_from-requires
 unfolding reason_texts reason_text reason_of
@@ -21,5 +22,5 @@ returns-in-1-to-17 c =
 
 pub returns-in_default : goal.returns-in_default
 returns-in_default c =
-    let outside : (c.args.number < 1) ⊎ (17 < c.args.number) = ⊎_elim (λ h. inl h.taken) (λ h. inr h.1.left) c.in_default.branch in
+    let outside : (c.args.number < 1) ⊎ (17 < c.args.number) = elim c.in_default.branch [ in_default-via-then-number-lt1 w ↦ inl (omega arith) | in_default-via-else-number-lt1+else-number-lt18 w ↦ inr (omega arith) ] in
     rw (c.refused.ensures, reason-untold c.args.number (length c.args.out.now) outside) record { value = (refl, tt); out_after = refl }

@@ -17,4 +17,4 @@ returns-in-Word c = rw c.in-Word.is record { value = c.kind_length.ensures; uppe
 pub returns-in_default : goal.returns-in_default
 returns-in_default c =
     let f = c.fields_length.ensures in
-    rw (text-others c.args.kind c.args.sort c.args.line.now c.in_default-own.keys3) record { value = f.0; upper_bound = omega (arith, f.1) }
+    rw (text-others c.args.kind c.args.sort c.args.line.now c.in_default.not-Kept c.in_default.not-Word) record { value = f.value; upper_bound = omega (arith, f.upper_bound) }

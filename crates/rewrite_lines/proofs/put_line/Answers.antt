@@ -13,7 +13,7 @@ put_kind-requires c = rw c.in-Word.is at c.requires
 
 pub put_fields-requires : goal.put_fields-requires
 put_fields-requires c =
-    rw (text-others c.args.kind c.args.sort c.args.line.now c.in_default-own.keys3) at c.requires
+    rw (text-others c.args.kind c.args.sort c.args.line.now c.in_default.not-Kept c.in_default.not-Word) at c.requires
 
 pub returns-in-Kept : goal.returns-in-Kept
 unfolding line_text
@@ -25,4 +25,4 @@ returns-in-Word c = rw c.in-Word.is c.put_kind.ensures.put
 
 pub returns-in_default : goal.returns-in_default
 returns-in_default c =
-    rw (text-others c.args.kind c.args.sort c.args.line.now c.in_default-own.keys3) c.put_fields.ensures
+    rw (text-others c.args.kind c.args.sort c.args.line.now c.in_default.not-Kept c.in_default.not-Word) c.put_fields.ensures

@@ -1,4 +1,5 @@
 -- `row_places::first_unfit` meets its contract. The loop's invariant: the search from i on finds what the whole search does. The measure is what is left of the places.
+use Rattle.std.specs.Prelude.{if◌then◌else◌}
 use mathlib.Core.Path.{◌≡◌, ap, ◌∙◌}
 use Prim.Native.Nat.{◌-◌, ◌+◌}
 use native.Mathlib.Nat.{sub-zero}
@@ -7,7 +8,6 @@ use lib.IntN.{pos}
 use lib.ListN.{get_or}
 use mir.Syntax.{w64}
 use mir.ValLaws.{to_z-of_z}
-use Rattle.ground.specs.Choice.{if◌then◌else◌}
 use Rattle.ground.specs.Search.{fails_from}
 use Rattle.ground.proofs.Search.{fail-step}
 use Rattle.row_places.specs.Rows.{fits_place, unfit}

@@ -11,5 +11,5 @@ returns-in-4 c = ⊎_elim (λ e. rw e) (⊎_elim (λ e. rw e) (⊎_elim (λ e. r
 pub returns-in_default : goal.returns-in_default
 unfolding short_month
 returns-in_default c =
-    let no = c.in_default-own.rest.1 in
+    let no = c.in_default.in_default-own.rest.1 in
     rw (ne_eqb _ 4 (λ e. no (inl e)), ne_eqb _ 6 (λ e. no (inr (inl e))), ne_eqb _ 9 (λ e. no (inr (inr (inl e)))), ne_eqb _ 11 (λ e. no (inr (inr (inr e)))))

@@ -16,7 +16,7 @@ use Rattle.clock.proofs.spans.pre_trigger.Goals.{After-second_number-2, Start}
 -- the difference in whole seconds, which fits_pattern, and one less than it
 abbrev apart : Start → ℤ
 apart c =
-    second_number c.args.trigger-date c.args.trigger-time -ℤ second_number c.args.first-date c.args.first-time
+    second_number c.args.trigger_date c.args.trigger_time -ℤ second_number c.args.first_date c.args.first_time
 
 apart_fits : (c : Start) → SFits w64 (apart c)
 apart_fits c =
@@ -28,9 +28,13 @@ less-fits c =
     let p = c.requires in
     less-fit c.args.first_date c.args.first_time p.0 p.1 c.args.trigger_date c.args.trigger_time p.2 p.3
 
+abbrev apart-after-second_number-2 : After-second_number-2 → ℤ
+apart-after-second_number-2 c =
+    second_number c.args.trigger_date c.args.trigger_time -ℤ second_number c.args.first_date c.args.first_time
+
 -- it is what the machine takes from what
 told : (c : After-second_number-2)
-    → to_z w64 (of_z w64 c.second_number.result) -ℤ to_z w64 (of_z w64 c.second_number-2.result) ≡ apart c.before
+    → to_z w64 (of_z w64 c.second_number.result) -ℤ to_z w64 (of_z w64 c.second_number-2.result) ≡ apart-after-second_number-2 c
 told c =
     let t = c.second_number in
     let f = c.second_number-2 in

@@ -1,0 +1,32 @@
+-- `config_places::put_stamps` meets its contract: the first sample fills the first part, and the trigger the second.
+use mathlib.Core.Path.{◌≡◌, refl, sym, ap, ◌∙◌}
+use Prim.Native.Nat.{◌-◌}
+use native.Mathlib.Omega.{arith}
+use lib.ListN.{length, take}
+use lib.Seq.{length-take-le}
+use Rattle.ground.proofs.Parts.{halves, half_length}
+use Rattle.config_places.proofs.ConfigLaws.{stamp-places}
+use Rattle.config_places.proofs.put_stamps.Goals as goal
+use Rattle.config_places.proofs.put_stamps.Goals.{Start}
+
+-- the first part
+front : (c : Start) → length (take 7 c.args.d.now) ≡ 7
+front c = length-take-le 7 c.args.d.now (omega arith)
+
+pub slice_bounds-copy_numbers-end-3 : goal.slice_bounds-copy_numbers-end-3
+slice_bounds-copy_numbers-end-3 c = sym (front (goal.at.slice_bounds-copy_numbers-end-3 c).Start)
+
+pub copy_numbers-requires : goal.copy_numbers-requires
+copy_numbers-requires c =
+    front (goal.at.copy_numbers-requires c).Start ∙ sym (ap length c.stamp_places-one.ensures ∙ stamp-places c.args.first)
+
+pub returns : goal.returns
+returns c =
+    let d = c.args.d.now in
+    let first = c.copy_numbers in
+    let second = c.copy_numbers-2 in
+    let p = first.new.d in
+    let q = second.new.d in
+    let lp : length p ≡ 7 = first.auto.d ∙ front (goal.at.returns c).Start in
+    let lq : length q ≡ length d - 7 = second.auto.d ∙ half_length d p 7 (length d) lp (omega arith) (omega arith) in
+    halves d p q 7 (length d) lp (omega arith) refl ∙ rw (first.ensures, second.ensures, c.stamp_places-one.ensures, c.stamp_places-other.ensures)

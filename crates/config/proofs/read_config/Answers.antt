@@ -55,34 +55,35 @@ stop : (b : After-next_line-line) → (b.next_line-line.result.number ≡ 0 → 
 unfolding step_of
 stop b h = rw (← found b, ne_eqb _ 0 h)
 
--- A line that was judged
-abbrev sought : After-take_line-one → After-next_line-line
-sought c = c.before
+-- A line that was judged: the one that was found
+sought : (c : After-take_line-one) → c.next_line-line.result ≡ next_line (last_rule c.loop-rule.config.layout.edition c.loop-rule.rule) (drop c.loop-rule.at c.args.cfg.now)
+sought c = rw (← c.last_rule.ensures) (c.next_line-line.ensures ∙ rw rest)
 
-taken : (c : After-take_line-one) → c.take_line-one.result ≡ take_line (rule (sought c)) (config (sought c)) (take (sought c).next-line.result.len (left (sought c)))
+taken : (c : After-take_line-one)
+    → c.take_line-one.result ≡ take_line c.loop-rule.rule c.loop-rule.config (take c.next_line-line.result.len (drop c.loop-rule.at c.args.cfg.now))
 taken c =
-    let b = sought c in
-    let e : b.before.before.before.before.before.before.loop.at + b.next-line.result.len - b.before.before.before.before.before.before.loop.at ≡ b.next-line.result.len = omega arith in
+    let e : c.loop-rule.at + c.next_line-line.result.len - c.loop-rule.at ≡ c.next_line-line.result.len = omega arith in
     c.take_line-one.ensures ∙ rw e
 
 one : (c : After-take_line-one) → let r = c.take_line-one.result in
-    step_of (rule (sought c)) (config (sought c)) (left (sought c)) ≡ record { fault = r.fault; used = (sought c).next-line.result.taken; rule = r.rule; config = r.config }
+    step_of c.loop-rule.rule c.loop-rule.config (drop c.loop-rule.at c.args.cfg.now)
+        ≡ record { fault = r.fault; used = c.next_line-line.result.taken; rule = r.rule; config = r.config }
 unfolding step_of
-one c = rw (← found (sought c), eq-eqb _ 0 c.if-line-ne0.false, ← taken c)
+one c = rw (← sought c, eq-eqb _ 0 c.if-line-ne0.false, ← taken c)
 
 -- where it is fine, it takes a byte at least and no more than there are
 within : (c : After-take_line-one) → c.take_line-one.result.fault.number ≡ 0
     → (1 ≤ c.next_line-line.result.taken) × (c.loop-rule.at + c.next_line-line.result.taken ≤ length c.args.cfg.now)
 within c e =
-    let b = sought c in
-    let h = rw (one c, length-drop) at (step-within (rule b) (config b) (left b) (rw (one c) e)) in
+    let h = rw (one c, length-drop) at (step-within c.loop-rule.rule c.loop-rule.config (drop c.loop-rule.at c.args.cfg.now) (rw (one c) e)) in
     (h.0, omega arith)
 
 pub returns-then-line-ne0 : goal.returns-then-line-ne0
 returns-then-line-ne0 c =
     let l = c.loop-rule in
     let n = c.if-line-ne0.true in
-    rw (c.no-then-line-ne0.ensures, l.invariant.3, rest-stops (rule (goal.at.returns-then-line-ne0 c).After-next_line-line) (config (goal.at.returns-then-line-ne0 c).After-next_line-line) l.n (left (goal.at.returns-then-line-ne0 c).After-next_line-line) (lined (goal.at.returns-then-line-ne0 c).After-next_line-line) (rw (stop (goal.at.returns-then-line-ne0 c).After-next_line-line n) n), stop (goal.at.returns-then-line-ne0 c).After-next_line-line n)
+    let b = (goal.at.returns-then-line-ne0 c).After-next_line-line in
+    rw (c.no-then-line-ne0.ensures, l.invariant.3, rest-stops l.rule l.config l.n (drop l.at c.args.cfg.now) (lined b) (rw (stop b n) n), stop b n)
 
 pub overflow_add-end : goal.overflow_add-end
 overflow_add-end c = omega (arith, room (goal.at.overflow_add-end c).After-next_line-line, c.if-cfg-gt65536.false)
@@ -98,22 +99,20 @@ take_line-one-requires c = c.loop-rule.invariant.2
 
 pub returns-then-wrong-ne0 : goal.returns-then-wrong-ne0
 returns-then-wrong-ne0 c =
-    let b = sought (goal.at.returns-then-wrong-ne0 c).After-take_line-one in
-    let l = b.before.before.before.before.before.before.loop in
-    rw (c.no-then-wrong-ne0.ensures, l.inv.3, rest-stops (rule b) (config b) l.n (left b) (lined b) (rw (one (goal.at.returns-then-wrong-ne0 c).After-take_line-one) c.if-wrong-ne0.true), one (goal.at.returns-then-wrong-ne0 c).After-take_line-one)
+    let t = (goal.at.returns-then-wrong-ne0 c).After-take_line-one in
+    let l = c.loop-rule in
+    rw (c.no-then-wrong-ne0.ensures, l.invariant.3, rest-stops l.rule l.config l.n (drop l.at c.args.cfg.now) (lined (goal.at.returns-then-wrong-ne0 c).After-next_line-line) (rw (one t) c.if-wrong-ne0.true), one t)
 
 pub overflow_add-at : goal.overflow_add-at
 overflow_add-at c =
-    let b = sought (goal.at.overflow_add-at c).After-take_line-one in
     let w = within (goal.at.overflow_add-at c).After-take_line-one c.if-wrong-ne0.false in
-    let h : b.before.before.before.before.before.before.loop.at + b.next-line.result.taken < 2 ^ 64 = omega (arith, b.before.before.before.before.before.before.before.before.if1.left) in
+    let h : c.loop-rule.at + c.next_line-line.result.taken < 2 ^ 64 = omega (arith, c.if-cfg-gt65536.false) in
     record { fits = h }
 
 pub overflow_add-n : goal.overflow_add-n
 overflow_add-n c =
-    let b = sought (goal.at.overflow_add-n c).After-take_line-one in
     let w = within (goal.at.overflow_add-n c).After-take_line-one c.if-wrong-ne0.false in
-    let h : b.before.before.before.before.before.before.loop.n + 1 < 2 ^ 32 = omega (arith, b.before.before.before.before.before.before.loop.inv.1, b.before.before.before.before.before.before.before.before.if1.left) in
+    let h : c.loop-rule.n + 1 < 2 ^ 32 = omega (arith, c.loop-rule.invariant.1, c.if-cfg-gt65536.false) in
     record { fits = h }
 
 pub loop-rule-smaller : goal.loop-rule-smaller
@@ -121,12 +120,12 @@ loop-rule-smaller c = omega (arith, within (goal.at.loop-rule-smaller c).After-t
 
 pub loop-rule-preserved : goal.loop-rule-preserved
 loop-rule-preserved c =
-    let b = sought (goal.at.loop-rule-preserved c).After-take_line-one in
-    let l = b.before.before.before.before.before.before.loop in
-    let w = within (goal.at.loop-rule-preserved c).After-take_line-one c.if-wrong-ne0.false in
-    let e : (step_of (rule b) (config b) (left b)).fault.number ≡ 0 = rw (one (goal.at.loop-rule-preserved c).After-take_line-one) c.if-wrong-ne0.false in
-    let ready = rw (one (goal.at.loop-rule-preserved c).After-take_line-one) at (step-ready (rule b) (config b) (left b) e) in
-    (w.1, omega arith, ready, rw (l.inv.3, rest_goes (rule b) (config b) l.n (left b) (lined b) e, one (goal.at.loop-rule-preserved c).After-take_line-one, drop-drop))
+    let t = (goal.at.loop-rule-preserved c).After-take_line-one in
+    let l = c.loop-rule in
+    let w = within t c.if-wrong-ne0.false in
+    let e : (step_of l.rule l.config (drop l.at c.args.cfg.now)).fault.number ≡ 0 = rw (one t) c.if-wrong-ne0.false in
+    let ready = rw (one t) at (step-ready l.rule l.config (drop l.at c.args.cfg.now) e) in
+    (w.1, omega arith, ready, rw (l.invariant.3, rest_goes l.rule l.config l.n (drop l.at c.args.cfg.now) (lined (goal.at.loop-rule-preserved c).After-next_line-line) e, one t, drop-drop))
 
 pub returns-then-at-cfg : goal.returns-then-at-cfg
 returns-then-at-cfg c =

@@ -12,38 +12,38 @@ use Rattle.data.specs.Files.{misfit_of, write_said}
 use Rattle.data.proofs.Laws.{Writable, writable}
 use Rattle.row_bytes.proofs.RowLaws.{length-bytes}
 use Rattle.data.proofs.write_row.Goals as goal
-use Rattle.data.proofs.write_row.Goals.{In-Bytes-2}
+use Rattle.data.proofs.write_row.Goals.{In-Bytes}
 
 -- what is said: bytes, as many as the answer tells
-told : (c : In-Bytes-2) → let x = write_said c.args.layout c.args.n c.args.row (length c.args.out.now) in
+told : (c : In-Bytes) → let x = write_said c.args.layout c.args.n c.args.row (length c.args.out.now) in
     (new : List ℕ) × (x ≡ says new) × (c.in-Bytes.size ≡ length new) × (Writable c.args.layout c.args.n c.args.row (length c.args.out.now) new)
 told c =
     let x = write_said c.args.layout c.args.n c.args.row (length c.args.out.now) in
     let t = written-told x c.in-Bytes.size (sym c.may_write-answer.ensures ∙ c.in-Bytes.is) in
     (t.0, t.1, t.2, writable c.args.layout c.args.n c.args.row (length c.args.out.now) t.0 t.1)
 
-within : (c : In-Bytes-2) → c.in-Bytes.size ≤ length c.args.out.now
+within : (c : In-Bytes) → c.in-Bytes.size ≤ length c.args.out.now
 within c = let t = told c in omega (arith, t.2, t.3.within)
 
 -- as many bytes are lent
-front : (c : In-Bytes-2) → length (take c.in-Bytes.size c.args.out.now) ≡ c.in-Bytes.size
+front : (c : In-Bytes) → length (take c.in-Bytes.size c.args.out.now) ≡ c.in-Bytes.size
 front c = length-take-le c.in-Bytes.size c.args.out.now (within c)
 
 pub slice_bounds-put_row-end : goal.slice_bounds-put_row-end
-slice_bounds-put_row-end c = omega (arith, within (goal.at.slice_bounds-put_row-end c).In-Bytes-2)
+slice_bounds-put_row-end c = omega (arith, within (goal.at.slice_bounds-put_row-end c).In-Bytes)
 
 pub slice_bounds-put_row-end-in-Bytes : goal.slice_bounds-put_row-end-in-Bytes
-slice_bounds-put_row-end-in-Bytes c = sym (length-take-le _ _ (omega (arith, within (goal.at.slice_bounds-put_row-end-in-Bytes c).In-Bytes-2)))
+slice_bounds-put_row-end-in-Bytes c = sym (length-take-le _ _ (omega (arith, within (goal.at.slice_bounds-put_row-end-in-Bytes c).In-Bytes)))
 
 pub put_row-requires : goal.put_row-requires
 unfolding misfit_of
 put_row-requires c =
-    let t = told (goal.at.put_row-requires c).In-Bytes-2 in
-    (t.3.fit, front (goal.at.put_row-requires c).In-Bytes-2 ∙ t.2 ∙ ap length t.3.bytes ∙ sym (length-bytes c.args.layout c.args.n c.args.row), t.3.all)
+    let t = told (goal.at.put_row-requires c).In-Bytes in
+    (t.3.fit, front (goal.at.put_row-requires c).In-Bytes ∙ t.2 ∙ ap length t.3.bytes ∙ sym (length-bytes c.args.layout c.args.n c.args.row), t.3.all)
 
 pub returns-in-Bytes : goal.returns-in-Bytes
 returns-in-Bytes c =
-    let t = told (goal.at.returns-in-Bytes c).In-Bytes-2 in
+    let t = told (goal.at.returns-in-Bytes c).In-Bytes in
     record { value = sym c.in-Bytes.is ∙ c.may_write-answer.ensures; out_after = filled-told _ t.0 _ _ _ t.1 (c.put_row.ensures ∙ sym t.3.bytes) t.2 }
 
 pub returns-in-No : goal.returns-in-No

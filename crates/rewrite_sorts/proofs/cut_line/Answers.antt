@@ -1,22 +1,18 @@
 -- `rewrite_sorts::cut_line` meets its contract: the line that was scanned, or none.
 use mathlib.Core.Path.{◌≡◌, refl, sym, ap, ◌∙◌, subst}
-use mathlib.Core.List.{[], ◌∷◌}
-use Prim.Native.Nat.{◌≤◌}
+use Prim.Native.Nat.{ℕ, ◌≤◌}
 use native.Mathlib.Omega.{arith}
 use lib.ListN.{length}
-use types.Run.{OneOf, miss}
-use denote.Enum.Declared.{tag_of}
 use Rattle.text.specs.declared.Scanned.{Scanned}
 use Rattle.text.specs.declared.Scanned.TheVariants.{Line, Ends, Bad}
-use Rattle.text.specs.contracts.Scanned.{the_type}
 use Rattle.rewrite_sorts.specs.declared.Cut.{Cut}
 use Rattle.rewrite_sorts.specs.Cuts.{cut_of, cut_line}
 use Rattle.rewrite_sorts.proofs.CutLaws.{cut-within}
 use Rattle.rewrite_sorts.proofs.cut_line.Goals as goal
 
 -- where no line was found
-none : (k : Scanned) → OneOf (1 ∷ 2 ∷ []) (tag_of the_type k) → record { len = 0; taken = 0 } ≡ cut_of k
-none (Line len taken) h = absurd (miss (1 ∷ 2 ∷ []) 0 tt h)
+none : (k : Scanned) → ((len taken : ℕ) → k ≡ Line len taken → ⊥) → record { len = 0; taken = 0 } ≡ cut_of k
+none (Line len taken) h = absurd (h len taken refl)
 none Ends h = refl
 none Bad h = refl
 
@@ -29,4 +25,4 @@ returns-in-Line c =
 
 pub returns-in_default : goal.returns-in_default
 unfolding cut_line
-returns-in_default c = record { value = none c.scan_last_line.result c.in_default-own.keys2 ∙ ap cut_of c.scan_last_line.ensures; len_le_taken = (omega arith, omega arith) }
+returns-in_default c = record { value = none c.scan_last_line.result c.in_default.not-Line ∙ ap cut_of c.scan_last_line.ensures; len_le_taken = (omega arith, omega arith) }

@@ -45,7 +45,7 @@ use Rattle.paper.specs.Fields.{is_between}
 use Rattle.paper.specs.Lines.{ended}
 use Rattle.paper.specs.Data.{TextLine, TextFile}
 use Rattle.paper.specs.Written.{PlainCount, PlainWhole, PlainSample, PlainLine, PlainText}
-use Rattle.exact.proofs.CountLaws.{digits-to, digits_from}
+use Rattle.exact.proofs.CountLaws.{digits-to, digits-from}
 use Rattle.exact.proofs.CommaLaws.{fields-exactly, fields-of}
 use Rattle.exact_data.proofs.TextLaws.{line-exactly}
 use Rattle.exact_data.proofs.StandLaws.{same_lines}
@@ -56,7 +56,7 @@ count-to [] e = record { number = clash (cc); needed = λ h q. clash (cc) }
 count-to (b ∷ l) e =
     let s = and_split (every is_digit (b ∷ l)) (eqb (length l) 0 || not (eqb b 48)) e in
     record {
-      number = record { some = omega arith; all = digits_from (b ∷ l) s.0 };
+      number = record { some = omega arith; all = digits-from (b ∷ l) s.0 };
       needed = λ h q. let x : false ≡ true = rw (ne_eqb (length l) 0 (λ z. omega arith), eq-eqb b 48 q) at s.1 in clash (cc);
     }
 

@@ -1,14 +1,11 @@
 -- NOTHING TO BELIEVE HERE: what the functions say that read a file, so that what is handed on is a part of the room; what a file holds no contract can say.
 -- What a reader has left and what a writer holds is said where it is known, as of bytes in memory.
 use Rattle.std.specs.Prelude.{◌≡◌, ◌≢◌, ◌⊎◌, ℕ, ◌≤◌, ◌<◌, List, ◌++◌, length, take, codes, Option}
-use Rattle.std.specs.Io.{StartsWith}
-use Rattle.std.specs.Io.KnownBytes.{Appends, Consumes, IsAtEnd}
+use Rattle.std.specs.Io.KnownBytes.{Consumes, IsAtEnd}
 use Rattle.std.specs.declared.env.FillError.{FillError}
 use Rattle.std.specs.declared.env.FillError.TheVariants.{NotPresent, TooLong}
 use Rattle.list.specs.declared.Got.{Got}
 use Rattle.list.specs.declared.Got.TheVariants.{Bytes, Failed}
-use Rattle.list.specs.declared.Ending.{Ending}
-use Rattle.list.specs.declared.Ending.TheVariants.{Listed, Refused, Unread, Neither}
 
 -- no more bytes were read than there was room for
 abbrev pub Within : ℕ → Got → Type 0
@@ -35,28 +32,3 @@ number_mark = codes " (os error "
 -- words are what stands before the number of a message, or all of a message that has none
 abbrev pub WithoutNumber : List ℕ → List ℕ → Type 0
 WithoutNumber message words = ((rest : List ℕ) × (message ≡ words ++ (number_mark ++ rest))) ⊎ ((words ≡ message) × ((xs ys : List ℕ) → message ≢ xs ++ (number_mark ++ ys)))
-
--- the text is the line of a refusal
-abbrev pub IsRefusal : List ℕ → Type 0
-IsRefusal text = StartsWith text (codes "no ")
-
--- a whole text is a listing or a refusal
-abbrev pub IsEndingOf : List ℕ → Ending → Type 0
-IsEndingOf text Listed = ¬ IsRefusal text
-IsEndingOf text Refused = IsRefusal text
-IsEndingOf text Unread = ⊥
-IsEndingOf text Neither = ⊥
-
--- the whole text was written, and the ending is the text's; where there is no such ending nothing is said
-abbrev pub Printed : Option (List ℕ) → Option (List ℕ) → List ℕ → Ending → Type 0
-Printed old new text Listed = Appends old new text × IsEndingOf text Listed
-Printed old new text Refused = Appends old new text × IsEndingOf text Refused
-Printed old new text Unread = Unit {0}
-Printed old new text Neither = Unit {0}
-
--- the exit status, as diff and grep have it
-abbrev pub status_of : Ending → ℕ
-status_of Listed = 0
-status_of Refused = 1
-status_of Neither = 2
-status_of Unread = 141

@@ -1,20 +1,17 @@
 // Lists a recording on its standard output: the two arguments name the configuration and the data file.
 // What it prints is the text that the crate `list_text` puts, which is proved; a file that can't be read, and wrong arguments, are one line on standard error.
-// Exit status, as diff and grep have it: 0 where a listing was printed, 1 where a refusal was, 2 where a line on standard error says why there is neither, and 141 where the reader has had enough.
 #![tactic(auto)]
 
-ghost use Rattle.std.specs.Prelude.{◌≡◌, ◌≢◌, ◌↔◌, ◌≤◌, ℕ, List, length, pos, codes, Some, Err, IfOk, OnOk, IsTrue};
+ghost use Rattle.std.specs.Prelude.{◌≡◌, ◌≢◌, ◌↔◌, ◌≤◌, length, pos, codes, Some, Err, IfOk, OnOk, IsTrue};
 ghost use Rattle.std.specs.Io.KnownBytes.{Appends};
 ghost use Rattle.std.specs.IoError.{raw_os_error};
-ghost use Rattle.std.specs.Process.{exit_status};
 ghost use Rattle.list_text.specs.Listing.{listing};
-ghost use Rattle.list.specs.Inner.{Within, FirstBytes, fault_line, error_number, WithoutNumber, IsEndingOf, Printed, status_of};
+ghost use Rattle.list.specs.Inner.{Within, FirstBytes, fault_line, error_number, WithoutNumber};
 
 use arrayvec::ArrayString;
 use std::env::FillError;
 use std::fs::File;
 use std::io::{ErrorKind, Read, Write};
-use std::process::ExitCode;
 use std::rt::{Env, Files};
 use std::{fmt, io, str};
 
@@ -35,23 +32,11 @@ const INVALID_ARGUMENT: i32 = 22;
 
 const NAME_TOO_LONG: i32 = 36;
 
-// The status that a shell gives a program which the signal SIGPIPE ended.
-const UNREAD: u8 = 141;
-
 // So many bytes were read, or none for a reason that was told.
 #[derive(Clone, Copy)]
 enum Got {
     Bytes(usize),
     Failed,
-}
-
-// What standard output has at the end: a listing, a refusal, as much as its reader wanted, or neither for a reason that was told.
-#[derive(Clone, Copy)]
-enum Ending {
-    Listed,
-    Refused,
-    Unread,
-    Neither,
 }
 
 // Room for a file.
@@ -169,66 +154,40 @@ fn is_given(found: &Result<usize, FillError>) -> bool
     !matches!(found, Err(FillError::NotPresent))
 }
 
-// What a text is that stands whole on standard output.
-fn ending_of(text: &[u8]) -> Ending
-    ensures { IsEndingOf text.now result }
-{
-    if text.starts_with(b"no ") {
-        Ending::Refused
-    } else {
-        Ending::Listed
-    }
-}
-
 // Prints the listing.
-fn print<O: Write, W: Write>(out: &mut O, err: &mut W, cfg: &[u8], dat: &[u8]) -> Ending
-    ensures { Printed (O.contents out.old) (O.contents out.new) (listing cfg.now dat.now) result }
+fn print<O: Write>(out: &mut O, cfg: &[u8], dat: &[u8]) -> io::Result<()>
+    ensures { OnOk result (Appends (O.contents out.old) (O.contents out.new) (listing cfg.now dat.now)) }
 {
     let mut text = [0u8; list_text::ROOM];
     let n = list_text::put_listing(cfg, dat, &mut text);
-    match out.write_all(&text[..n]) {
-        Ok(()) => ending_of(&text[..n]),
-        Err(why) if why.kind() == ErrorKind::BrokenPipe => Ending::Unread,
-        Err(why) => {
-            fail(err, b"list: standard output", b"", &why);
-            Ending::Neither
-        }
-    }
+    out.write_all(&text[..n])
 }
 
-// Lists the recording that the arguments name.
-fn run<R: Env + Files, O: Write, W: Write>(rt: &R, out: &mut O, err: &mut W) -> Ending
-    ensures { (cfg dat : List ℕ) × Printed (O.contents out.old) (O.contents out.new) (listing cfg dat) result }
-{
+// Lists the recording that the arguments name. A reader that has had enough is told nothing.
+fn run<R: Env + Files, O: Write, W: Write>(rt: &R, out: &mut O, err: &mut W) {
     if !is_given(&rt.arg(2, &mut [])) || is_given(&rt.arg(3, &mut [])) {
         let _ = err.write_all(b"usage: list CONFIGURATION DATA\n");
-        return Ending::Neither;
+        return;
     }
     let mut cfg = empty_room();
     let first = read_argument(rt, err, b"list: configuration ", 1, &mut cfg);
     let Got::Bytes(n) = first else {
-        return Ending::Neither;
+        return;
     };
     let mut dat = empty_room();
     let second = read_argument(rt, err, b"list: data file ", 2, &mut dat);
     let Got::Bytes(m) = second else {
-        return Ending::Neither;
+        return;
     };
-    print(out, err, &cfg[..n], &dat[..m])
-}
-
-// The exit status of an ending.
-fn status(ending: Ending) -> ExitCode
-    ensures { exit_status result ≡ status_of ending }
-{
-    match ending {
-        Ending::Listed => ExitCode::from(0),
-        Ending::Refused => ExitCode::from(1),
-        Ending::Neither => ExitCode::from(2),
-        Ending::Unread => ExitCode::from(UNREAD),
+    match print(out, &cfg[..n], &dat[..m]) {
+        Ok(()) => {}
+        Err(why) if why.kind() == ErrorKind::BrokenPipe => {}
+        Err(why) => {
+            fail(err, b"list: standard output", b"", &why);
+        }
     }
 }
 
-fn main(rt: HostRuntime) -> ExitCode {
-    status(run(&rt, &mut rt.stdout(), &mut rt.stderr()))
+fn main(rt: HostRuntime) {
+    run(&rt, &mut rt.stdout(), &mut rt.stderr());
 }

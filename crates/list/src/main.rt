@@ -2,13 +2,35 @@
 // What it prints is the text that the crate `list_text` puts, which is proved; a file that can't be read, and wrong arguments, are one line on standard error.
 #![tactic(auto)]
 
-ghost use Rattle.std.specs.Prelude.{◌≡◌, length};
-ghost use Rattle.list.specs.Inner.{Within};
+ghost use Rattle.std.specs.Prelude.{◌≡◌, ◌≢◌, ◌↔◌, ◌≤◌, length, pos, codes, Some, Err, IfOk, OnOk, IsTrue};
+ghost use Rattle.std.specs.Io.KnownBytes.{Appends};
+ghost use Rattle.std.specs.IoError.{raw_os_error};
+ghost use Rattle.list_text.specs.Listing.{listing};
+ghost use Rattle.list.specs.Inner.{Within, FirstBytes, fault_line, error_number, WithoutNumber};
 
-use libc::{STDERR_FILENO, STDOUT_FILENO};
+use arrayvec::ArrayString;
+use std::env::FillError;
+use std::fs::File;
+use std::io::{ErrorKind, Read, Write};
+use std::rt::{Env, Files};
+use std::{fmt, io, str};
 
 // Room for one byte more than a file may have.
 const FILE_ROOM: usize = 65537;
+
+// Room for a path, with one byte more than the system takes.
+const PATH_ROOM: usize = 4096;
+
+// Room for the words of an error.
+const WORDS_ROOM: usize = 256;
+
+// What `Display` puts between the system's words for an error and its number.
+const NUMBER: &str = " (os error ";
+
+// Linux's numbers of two errors.
+const INVALID_ARGUMENT: i32 = 22;
+
+const NAME_TOO_LONG: i32 = 36;
 
 // So many bytes were read, or none for a reason that was told.
 #[derive(Clone, Copy)]
@@ -25,86 +47,147 @@ fn empty_room() -> [u8; FILE_ROOM]
 }
 
 // Reads on until the room is full or the input ends.
-fn read_all(fd: i32, room: &mut [u8]) -> Got
-    ensures { Within (length room.old) result }
+fn read_all<R: Read>(file: &mut R, room: &mut [u8]) -> io::Result<usize>
+    ensures within { IfOk result (λ n. n ≤ length room.old) }
+    ensures bytes { IfOk result (FirstBytes (R.remaining file.old) (R.remaining file.new) room.new) }
 {
     let mut n = 0;
     while n < room.len() {
-        let got = libc::read(fd, &mut room[n..]);
-        if got < 0 {
-            return Got::Failed;
-        }
-        let more = io::count(got, &room[n..]);
+        let more = file.read(&mut room[n..])?;
         if more == 0 {
-            return Got::Bytes(n);
+            return Ok(n);
         }
         n += more;
     }
-    Got::Bytes(n)
+    Ok(n)
+}
+
+// The system's words for an error, without its number.
+fn words(message: &str) -> &str
+    ensures { WithoutNumber message.now result.now }
+{
+    match message.split_once(NUMBER) {
+        Some((words, _)) => words,
+        None => message,
+    }
+}
+
+// Writes the line that says why there is no listing.
+fn put_fault<W: Write>(err: &mut W, what: &[u8], path: &[u8], why: &str) -> io::Result<()>
+    ensures { OnOk result (Appends (W.contents err.old) (W.contents err.new) (fault_line what.now path.now why.now)) }
+{
+    err.write_all(what)?;
+    err.write_all(path)?;
+    err.write_all(b": ")?;
+    err.write_all(why.as_bytes())?;
+    err.write_all(b"\n")
 }
 
 // Says which file can't be read, and why.
-fn fail(what: &[u8], path: &[u8]) -> Got
+fn fail<W: Write>(err: &mut W, what: &[u8], path: &[u8], why: &io::Error) -> Got
     ensures { result ≡ Got.Failed }
 {
-    io::write_all(STDERR_FILENO, what);
-    os::fail(path);
+    let mut message = ArrayString::<WORDS_ROOM>::new();
+    let _ = fmt::Write::write_fmt(&mut message, why);
+    let _ = put_fault(err, what, path, words(message.as_str()));
     Got::Failed
 }
 
+// Reads the file of a name, which has to be UTF-8.
+fn try_read_file<R: Files>(files: &R, path: &[u8], room: &mut [u8]) -> io::Result<usize>
+    ensures { IfOk result (λ n. n ≤ length room.old) }
+{
+    let Ok(name) = str::from_utf8(path) else {
+        return Err(io::Error::new(ErrorKind::InvalidInput, "the name is not UTF-8"));
+    };
+    let mut file = File::open(files, name)?;
+    read_all(&mut file, room)
+}
+
 // Reads the file of a name.
-fn read_file(what: &[u8], path: &[u8], room: &mut [u8]) -> Got
+fn read_file<R: Files, W: Write>(
+    files: &R,
+    err: &mut W,
+    what: &[u8],
+    path: &[u8],
+    room: &mut [u8],
+) -> Got
     ensures { Within (length room.old) result }
 {
-    let fd = os::open_read(path);
-    if fd < 0 {
-        return fail(what, path);
+    match try_read_file(files, path, room) {
+        Ok(n) => Got::Bytes(n),
+        Err(why) => fail(err, what, path, &why),
     }
-    let got = read_all(fd, room);
-    match got {
-        Got::Bytes(_) => {
-            libc::close(fd);
-            got
-        }
-        Got::Failed => fail(what, path),
+}
+
+// Why an argument can't be had.
+fn argument_error(found: FillError) -> io::Error
+    ensures { raw_os_error result ≡ Some (pos (error_number found)) }
+{
+    match found {
+        FillError::NotPresent => io::Error::from_raw_os_error(INVALID_ARGUMENT),
+        FillError::TooLong => io::Error::from_raw_os_error(NAME_TOO_LONG),
     }
 }
 
 // Reads the file that argument i names.
-fn read_argument(what: &[u8], i: usize, room: &mut [u8]) -> Got
+fn read_argument<R: Env + Files, W: Write>(
+    rt: &R,
+    err: &mut W,
+    what: &[u8],
+    i: usize,
+    room: &mut [u8],
+) -> Got
     ensures { Within (length room.old) result }
 {
-    let mut path = io::buffer();
-    let n = os::arg(i, &mut path);
-    if os::errno() != 0 {
-        return fail(what, &path[..n]);
+    let mut path = [0; PATH_ROOM];
+    match rt.arg(i, &mut path) {
+        Ok(n) => read_file(rt, err, what, &path[..n], room),
+        Err(found) => fail(err, what, b"", &argument_error(found)),
     }
-    read_file(what, &path[..n], room)
+}
+
+// Whether there is an argument, be there room for it or not.
+fn is_given(found: &Result<usize, FillError>) -> bool
+    ensures { IsTrue result ↔ (found.now ≢ Err FillError.NotPresent) }
+{
+    !matches!(found, Err(FillError::NotPresent))
 }
 
 // Prints the listing.
-fn print(cfg: &[u8], dat: &[u8]) {
-    let mut out = [0u8; list_text::ROOM];
-    let n = list_text::put_listing(cfg, dat, &mut out);
-    if !io::write_all(STDOUT_FILENO, &out[..n]) {
-        os::fail(b"list: standard output");
-    }
+fn print<O: Write>(out: &mut O, cfg: &[u8], dat: &[u8]) -> io::Result<()>
+    ensures { OnOk result (Appends (O.contents out.old) (O.contents out.new) (listing cfg.now dat.now)) }
+{
+    let mut text = [0u8; list_text::ROOM];
+    let n = list_text::put_listing(cfg, dat, &mut text);
+    out.write_all(&text[..n])
 }
 
-fn main() {
-    if os::arg_count() != 3 {
-        io::write_all(STDERR_FILENO, b"usage: list CONFIGURATION DATA\n");
+// Lists the recording that the arguments name. A reader that has had enough is told nothing.
+fn run<R: Env + Files, O: Write, W: Write>(rt: &R, out: &mut O, err: &mut W) {
+    if !is_given(&rt.arg(2, &mut [])) || is_given(&rt.arg(3, &mut [])) {
+        let _ = err.write_all(b"usage: list CONFIGURATION DATA\n");
         return;
     }
     let mut cfg = empty_room();
-    let first = read_argument(b"list: configuration ", 1, &mut cfg);
+    let first = read_argument(rt, err, b"list: configuration ", 1, &mut cfg);
     let Got::Bytes(n) = first else {
         return;
     };
     let mut dat = empty_room();
-    let second = read_argument(b"list: data file ", 2, &mut dat);
+    let second = read_argument(rt, err, b"list: data file ", 2, &mut dat);
     let Got::Bytes(m) = second else {
         return;
     };
-    print(&cfg[..n], &dat[..m]);
+    match print(out, &cfg[..n], &dat[..m]) {
+        Ok(()) => {}
+        Err(why) if why.kind() == ErrorKind::BrokenPipe => {}
+        Err(why) => {
+            fail(err, b"list: standard output", b"", &why);
+        }
+    }
+}
+
+fn main(rt: HostRuntime) {
+    run(&rt, &mut rt.stdout(), &mut rt.stderr());
 }

@@ -37,21 +37,21 @@
  * No call allocates, keeps anything between calls, reads a clock or touches a file: all are reentrant, and threads may
  * call at the same time as long as what one writes is lent to no other.
  *
- * What links: libzagalume.a alone, one object of some 48 KB of code and constants, with no writable data. It calls
+ * What links: libzagalume.a alone, one object of some 50 KB of code and constants, with no writable data. It calls
  * memcpy and memset and nothing else: no heap, no other part of a C library, no operating system.
  *
  * Stack that a call uses, in bytes, its caller's frame included, on the largest layout (A = 96, D = 256) of every kind and
- * edition, as tools/stack measures it:
+ * edition, as tools/stack measures it; on aarch64 as the older kit rattle-kit-5b compiled it:
  *
  *                     x86-64      aarch64
- *     zl_config          1360        1296
- *     zl_write_config    1440        1488
- *     zl_check            496         320
- *     zl_row             3024        2896
- *     zl_write_row       2592        2560
- *     zl_length          2144        1984
- *     zl_change          3696        3504
- *     zl_reason           736         736
+ *     zl_config          1184        1296
+ *     zl_write_config    1472        1488
+ *     zl_check            272         320
+ *     zl_row             5536        2896
+ *     zl_write_row       2368        2560
+ *     zl_length          2016        1984
+ *     zl_change          4240        3504
+ *     zl_reason           176         736
  */
 #ifndef ZAGALUME_H
 #define ZAGALUME_H

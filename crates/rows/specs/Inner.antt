@@ -1,5 +1,5 @@
 -- NOTHING TO BELIEVE HERE: a walk over a data file of any kind, row by row: what stands at a row, and what follows it. No public call cites it.
--- The laws `fine-walk` and `row_here` (proofs/WalkLaws.antt) say that the walk's verdict is `file_fine`, and its rows `row_at`.
+-- The laws `fine-walk` and `row-here` (proofs/WalkLaws.antt) say that the walk's verdict is `file_fine`, and its rows `row_at`.
 use Rattle.std.specs.Prelude.{◌≡◌, List, ℕ, zero, suc, ◌+◌, ◌*◌, ◌≤◌, length, take, drop}
 use Rattle.ground.specs.Said.{Said, says, ◌>>=◌, ◌>>◌}
 use Rattle.model.specs.declared.Kind.TheVariants.{Ascii}

@@ -25,7 +25,7 @@ use Rattle.ascii_plain.specs.Rows.{text_of}
 use Rattle.ascii_plain.specs.Inner.{text_length}
 use Rattle.ascii_plain.proofs.LengthLaws.{length-text}
 use Rattle.ascii_file.specs.Files.{is_ending, check_lines, check_text, first_line, after_rows, text_row, mark, text_file}
-use Rattle.ascii_file.proofs.RoundLaws.{Fits, line-back, row-checked, row_line, row-rest}
+use Rattle.ascii_file.proofs.RoundLaws.{Fits, line-back, row-checked, row-line, row-rest}
 
 pub rows-front : (l : Layout) (r : ℕ → Row) (n m : ℕ) (end : List ℕ)
     → cat (λ i. text_of l (i + n) (r i)) (suc m) ++ end ≡ text_of l n (r 0) ++ (cat (λ i. text_of l (i + (n + 1)) (r (i + 1))) m ++ end)
@@ -55,7 +55,7 @@ module _ (l : Layout) (s : Sized l) where
   rows_back r n zero i h f k = absurd (omega arith)
   rows_back r n (suc m) zero h f k =
       let more = cat (λ i. text_of l (i + (n + 1)) (r (i + 1))) m ++ mark in
-      rw (rows-front l r n m mark, row_line l n (r 0) (f 0 k) s (omega arith) more, line-back l n (r 0) (f 0 k))
+      rw (rows-front l r n m mark, row-line l n (r 0) (f 0 k) s (omega arith) more, line-back l n (r 0) (f 0 k))
   rows_back r n (suc m) (suc i) h f k =
       let more = cat (λ i. text_of l (i + (n + 1)) (r (i + 1))) m ++ mark in
       rw (rows-front l r n m mark, row-rest l n (r 0) (f 0 (omega arith)) s (omega arith) more, ← add-one i)

@@ -3,7 +3,7 @@
 --     time-back, sample-back, status-back       what is written in a field reads back
 --     line-fine, line-back                      the line of a row is fine, and says the row with its places past A and D zero
 --     row-scanned, row-checked                  a row that a text begins with is found, and is fine
---     row_line, row-rest                        its line, and what follows it
+--     row-line, row-rest                        its line, and what follows it
 -- Assumes nothing.
 use mathlib.Core.Path.{◌≡◌, refl}
 use mathlib.Core.Bool.{Bool, true, false}
@@ -115,9 +115,9 @@ module _ (l : Layout) (n : ℕ) (r : Row) (f : Fits l r) where
     unfolding take_row
     row-checked = rw (row-scanned, take-line, line-fine h, text-line l n r)
 
-    pub row_line : first_line (text_of l n r ++ rest) ≡ line_of l n r
+    pub row-line : first_line (text_of l n r ++ rest) ≡ line_of l n r
     unfolding first_line
-    row_line = rw (row-scanned, take-line)
+    row-line = rw (row-scanned, take-line)
 
     pub row-rest : drop (line_taken (scan_row (text_of l n r ++ rest))) (text_of l n r ++ rest) ≡ rest
     row-rest = rw (row-scanned, as_line, drop-append-add)

@@ -192,8 +192,8 @@ module _ (f y : List ℕ) (c : Clean f) (h : field_length y ≡ 0) where
   first_of : first_field (f ++ y) ≡ f
   first_of = rw (length_before f y c.plain, h, add-zero, take-append_seam)
 
-  rest_of : drop (field_length (f ++ y) + 1) (f ++ y) ≡ drop 1 y
-  rest_of = rw (length_before f y c.plain, h, add-zero, drop-append-add)
+  rest-of : drop (field_length (f ++ y) + 1) (f ++ y) ≡ drop 1 y
+  rest-of = rw (length_before f y c.plain, h, add-zero, drop-append-add)
 
 tail_none : (l : Layout) (n k : ℕ) → Tail l n k 0 []
 unfolding check_fields
@@ -206,7 +206,7 @@ tail-next l n k m f y e t =
       apart = refl;
       count = rw (commas-append f y, c.plain, t.count) (omega arith);
       bytes = every_append _ f y c.bytes t.bytes;
-      fine = rw (first_of f y c t.apart, e, rest_of f y c t.apart) t.fine;
+      fine = rw (first_of f y c t.apart, e, rest-of f y c t.apart) t.fine;
     }
 
 tail-passed : (l : Layout) (n : ℕ) (s : List ℕ) (e k i m j q : ℕ) → Passed l s k i m j → j ≤ e → e ≤ length s → Tail l n (k + m) q (part j e s)
@@ -225,7 +225,7 @@ unfolding check_line check_number field_count after_fields
 line-there l n f y e t =
     let c = count-clean 1 10 f n e in
     let q : commas (f ++ y) + 1 ≡ fields_of l = omega (arith, commas-append f y, c.plain, t.count) in
-    rw (eq-eqb _ _ q, field-first 1 (f ++ y) (omega arith), first_of f y c t.apart, e, eq-eqb n n refl, rest_of f y c t.apart) t.fine
+    rw (eq-eqb _ _ q, field-first 1 (f ++ y) (omega arith), first_of f y c t.apart, e, eq-eqb n n refl, rest-of f y c t.apart) t.fine
 
 ended-there : (s : List ℕ) (e : ℕ) → e + 1 < length s → get_or s e 0 ≡ 13 → get_or s (e + 1) 0 ≡ 10 → take e s ++ 13 ∷ 10 ∷ drop (e + 1 + 1) s ≡ s
 ended-there s e w cr lf = rw (← cr, ← lf, ← here s (e + 1) w, ← here s e (omega arith), take-append-drop)

@@ -51,13 +51,13 @@ module _ {C B : Type 0} (r : Answers C B) (answer : B) (A : Type 0) (value : A �
       (λ t. inl ((d.fair a).0 t, d.told a ∙ rw t))
       (λ t. inr (λ g. let q = (d.fair a).1 g in clash (cc), d.told a ∙ rw t))
 
-  value_of : (c : C) (a : A) → answer ≡ r.is c → (Good a × (answer ≡ r.is (value a))) ⊎ ((Good a → ⊥) × (answer ≡ r.range)) → (a : A) × Good a × (value a ≡ c)
-  value_of c a e (inl h) = (a, h.0, d.apart.values (value a) c (sym h.1 ∙ e))
-  value_of c a e (inr h) = absurd (d.apart.from_range c (sym e ∙ h.1))
+  value-of : (c : C) (a : A) → answer ≡ r.is c → (Good a × (answer ≡ r.is (value a))) ⊎ ((Good a → ⊥) × (answer ≡ r.range)) → (a : A) × Good a × (value a ≡ c)
+  value-of c a e (inl h) = (a, h.0, d.apart.values (value a) c (sym h.1 ∙ e))
+  value-of c a e (inr h) = absurd (d.apart.from_range c (sym e ∙ h.1))
 
   value-to : (c : C) → answer ≡ r.is c → (answer ≡ r.form) ⊎ A → (a : A) × Good a × (value a ≡ c)
   value-to c e (inl f) = absurd (d.apart.from_form c (sym e ∙ f))
-  value-to c e (inr a) = value_of c a e (judged a)
+  value-to c e (inr a) = value-of c a e (judged a)
 
   value-from : (c : C) → (a : A) × Good a × (value a ≡ c) → answer ≡ r.is c
   value-from c (a, g, q) = let t = (d.fair a).1 g in d.told a ∙ rw (t, q)

@@ -86,9 +86,9 @@ record Misfit (n : Layout) (r : ℕ → Row) (i m : ℕ) : Type 0 where
 
 -- what holds of the first and of each after it
 module _ (n : Layout) (r : ℕ → Row) where
-  from_first : (i m : ℕ) → misfit_of n (r i) ≡ n.analogs → ((j : ℕ) → j < m → misfit_of n (r (i + 1 + j)) ≡ n.analogs) → (j : ℕ) → j < suc m → misfit_of n (r (i + j)) ≡ n.analogs
-  from_first i m e f zero h = rw add-zero e
-  from_first i m e f (suc j) h = let q : i + suc j ≡ i + 1 + j = omega arith in rw q (f j (omega arith))
+  from-first : (i m : ℕ) → misfit_of n (r i) ≡ n.analogs → ((j : ℕ) → j < m → misfit_of n (r (i + 1 + j)) ≡ n.analogs) → (j : ℕ) → j < suc m → misfit_of n (r (i + j)) ≡ n.analogs
+  from-first i m e f zero h = rw add-zero e
+  from-first i m e f (suc j) h = let q : i + suc j ≡ i + 1 + j = omega arith in rw q (f j (omega arith))
 
   fits_or : (i m : ℕ) → AllFitFrom n r i m ⊎ Misfit n r i m
   unfolding fit_rows
@@ -98,13 +98,13 @@ module _ (n : Layout) (r : ℕ → Row) where
       (λ t.
       let e = eqb-true (misfit_of n (r i)) n.analogs t in
       ⊎_elim
-      (λ (f : AllFitFrom n r (i + 1) m). inl (rw t f.0, from_first i m e f.1))
+      (λ (f : AllFitFrom n r (i + 1) m). inl (rw t f.0, from-first i m e f.1))
       (λ (f : Misfit n r (i + 1) m).
       let q : i + 1 + f.at ≡ i + suc f.at = omega arith in
       inr (record {
         at = suc f.at;
         within = omega (arith, f.within);
-        before = from_first i f.at e f.before;
+        before = from-first i f.at e f.before;
         here = rw q at f.here;
         refusal = rw t (rw q at f.refusal);
       }))

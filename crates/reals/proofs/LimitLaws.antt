@@ -24,16 +24,16 @@ use Rattle.reals.specs.Exact.{digits_of, decimal_places, exact_of, within_bound,
 use Rattle.reals.specs.Inner.{Sound}
 use Rattle.reals.proofs.FormLaws.{fraction-within, form-bounds}
 
-digits_from : (k : ℕ) (l : List ℕ) (i v : ℕ) → i + length l ≤ k → v < 10 ^ i → digits_of v l < 10 ^ k
+digits-from : (k : ℕ) (l : List ℕ) (i v : ℕ) → i + length l ≤ k → v < 10 ^ i → digits_of v l < 10 ^ k
 unfolding digits_of
-digits_from k [] i v h b = cap k i v (omega arith) b
-digits_from k (c ∷ l) i v h b =
+digits-from k [] i v h b = cap k i v (omega arith) b
+digits-from k (c ∷ l) i v h b =
     on_test (is_digit c)
-    (λ e. let d = digit-bounds c e in rw (digits_of, e) (digits_from k l (i + 1) (10 * v + (c - 48)) (omega arith) (more i v (c - 48) b (omega arith))))
-    (λ e. rw (digits_of, e) (digits_from k l i v (omega arith) b))
+    (λ e. let d = digit-bounds c e in rw (digits_of, e) (digits-from k l (i + 1) (10 * v + (c - 48)) (omega arith) (more i v (c - 48) b (omega arith))))
+    (λ e. rw (digits_of, e) (digits-from k l i v (omega arith) b))
 
 pub digits-small : (k : ℕ) (l : List ℕ) → length l ≤ k → digits_of 0 l < 10 ^ k
-digits-small k l h = digits_from k l 0 0 (omega arith) (omega arith)
+digits-small k l h = digits-from k l 0 0 (omega arith) (omega arith)
 
 pub places-within : (l : List ℕ) → decimal_places l ≤ length l
 unfolding decimal_places

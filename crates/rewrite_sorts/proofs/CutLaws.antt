@@ -21,10 +21,10 @@ within_of s (Line n t) f = (f.before, f.within)
 within_of s Ends f = (omega arith, omega arith)
 within_of s Bad f = (omega arith, omega arith)
 
-bytes_of : (s : List ℕ) (k : Scanned) → FoundLast (length s) s k → line_bytes (take (cut_of k).len s) ≡ true
-bytes_of s (Line n t) f = f.bytes
-bytes_of s Ends f = refl
-bytes_of s Bad f = refl
+bytes-of : (s : List ℕ) (k : Scanned) → FoundLast (length s) s k → line_bytes (take (cut_of k).len s) ≡ true
+bytes-of s (Line n t) f = f.bytes
+bytes-of s Ends f = refl
+bytes-of s Bad f = refl
 
 pub cut-within : (s : List ℕ) → ((cut_line s).len ≤ (cut_line s).taken) × ((cut_line s).taken ≤ length s)
 unfolding cut_line
@@ -32,7 +32,7 @@ cut-within s = within_of s (scan_last_line (length s) s) (last_found (length s) 
 
 pub bytes_cut : (s : List ℕ) → line_bytes (take (cut_line s).len s) ≡ true
 unfolding cut_line
-bytes_cut s = bytes_of s (scan_last_line (length s) s) (last_found (length s) s)
+bytes_cut s = bytes-of s (scan_last_line (length s) s) (last_found (length s) s)
 
 pub cut-ended : (l u : List ℕ) → line_bytes l ≡ true → cut_line (l ++ 13 ∷ 10 ∷ u) ≡ record { len = length l; taken = length l + 2 }
 unfolding cut_line scan_last_line

@@ -1,5 +1,6 @@
 -- Laws of the lengths in a plain row.
 --     decimal-short, plain-short                   a number of 32 bits has at most 10 characters, and with its sign at most 11
+--     missing-tested                               whether a sample is missing, as the machine has tested it
 --     missing-none, missing-mark, missing-either   the characters of a missing sample: none, or in a marked text those of the mark's number
 --     chars-missing, chars-there, chars-short      the characters of a sample: those where it is missing, else its number's, and so at most 11
 --     samples-long                                 the samples have their length
@@ -9,7 +10,7 @@
 --     text-line                                    CR LF takes 2 bytes more than the line
 --     line-most                                    the line of a sized layout has at most 1,880 characters
 -- Assumes nothing.
-use mathlib.Core.Path.{◌≡◌, refl, sym, ◌∙◌}
+use mathlib.Core.Path.{◌≡◌, refl, sym, ap, ◌∙◌}
 use mathlib.Core.Bool.{Bool, true, false}
 use mathlib.Core.Logic.{⊎_elim}
 use mathlib.Core.List.{List, [], ◌++◌}
@@ -19,6 +20,9 @@ use native.Mathlib.Omega.{arith}
 use lib.IntN.{ℤ, pos, negsuc}
 use lib.ListN.{length, get_or, length-append}
 use lib.Signed.{mag}
+use mir.Syntax.{w32}
+use mir.Val.{SFits, to_z, of_z}
+use mir.ValLaws.{to_z-of_z}
 use Rattle.ground.specs.Tables.{cat}
 use Rattle.ground.proofs.Cases.{on_test, lt-or-ge}
 use Rattle.ground.proofs.Tables.{length-cat}
@@ -39,6 +43,9 @@ decimal-short v h = length-decimal-le 9 v (omega arith)
 pub plain-short : (z : ℤ) → mag z < 2 ^ 31 → length (plain z) ≤ 11
 plain-short (pos v) h = rw (plain-pos v) (omega (arith, decimal-short v (omega arith)))
 plain-short (negsuc v) h = rw (plain-neg v) (omega (arith, decimal-short (suc v) (omega arith)))
+
+pub missing-tested : (z : ℤ) (r : Bool) → SFits w32 z → r ≡ is_missing (to_z w32 (of_z w32 z)) → is_missing z ≡ r
+missing-tested z r f e = sym (e ∙ ap is_missing (to_z-of_z w32 z f))
 
 module _ (l : Layout) where
   pub missing-none : marked l ≡ false → missing_chars l ≡ []

@@ -18,20 +18,17 @@ use Rattle.ascii_plain.specs.Rows.{sample_text}
 use Rattle.ascii_plain.specs.Inner.{samples_length}
 use Rattle.ascii_plain.proofs.LengthLaws.{samples-long, samples-next, samples-within}
 use Rattle.ascii_plain.proofs.put_samples.Goals as goal
-use Rattle.ascii_plain.proofs.put_samples.Goals.{After-sample_length, After-z-1}
+use Rattle.ascii_plain.proofs.put_samples.Goals.{After-sample_length}
 
 pub loop-i-init : goal.loop-i-init
 loop-i-init c = (search rules, refl, refl, refl)
 
 -- sample i, as the machine keeps it, and what it takes
-back : (c : After-z-1) → let z = get_or c.args.zs.now c.loop-i.i (pos 0) in to_z w32 (of_z w32 z) ≡ z
+back : (c : After-sample_length) → let z = get_or c.args.zs.now c.loop-i.i (pos 0) in to_z w32 (of_z w32 z) ≡ z
 back c = to_z-of_z w32 (get_or c.args.zs.now c.loop-i.i (pos 0)) (record { sfits = c.z-1.given })
 
-back-after-sample_length : (c : After-sample_length) → let z = get_or c.args.zs.now c.loop-i.i (pos 0) in to_z w32 (of_z w32 z) ≡ z
-back-after-sample_length c = to_z-of_z w32 (get_or c.args.zs.now c.loop-i.i (pos 0)) (record { sfits = c.z-1.given })
-
 long : (c : After-sample_length) → c.sample_length.result ≡ length (sample_text c.args.layout c.args.zs.now c.loop-i.i)
-long c = c.sample_length.ensures ∙ rw (back-after-sample_length c) (omega arith)
+long c = c.sample_length.ensures ∙ rw (back c) (omega arith)
 
 -- it lies within the slice
 room : (c : After-sample_length) → c.loop-i.from + c.sample_length.result ≤ length c.loop-i.d
@@ -57,7 +54,7 @@ loop-i-preserved c =
     let ys = c.put_sample.new.d in
     let e = long (goal.at.loop-i-preserved c).After-sample_length in
     let r = room (goal.at.loop-i-preserved c).After-sample_length in
-    let y : ys ≡ sample_text l zs p.i = c.put_sample.ensures ∙ rw (back (goal.at.loop-i-preserved c).After-z-1) in
+    let y : ys ≡ sample_text l zs p.i = c.put_sample.ensures ∙ rw (back (goal.at.loop-i-preserved c).After-sample_length) in
     let m : length ys ≡ k = rw (y, e) in
     let P = cat (sample_text l zs) p.i in
     let n = put_next c.args.d.now P ys p.from to (samples-long l zs p.i ∙ sym p.invariant.2) (omega arith) in (

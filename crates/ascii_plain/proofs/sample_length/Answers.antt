@@ -1,21 +1,12 @@
 -- `ascii_plain::sample_length` meets its contract: a sample has at most 11 characters, and so has a missing one.
-use mathlib.Core.Path.{◌≡◌, sym, ap, ◌∙◌}
+use mathlib.Core.Path.{◌≡◌, ◌∙◌}
 use native.Mathlib.Omega.{arith}
 use lib.ListN.{length}
-use mir.Syntax.{w32}
-use mir.ValLaws.{to_z-of_z}
 use Rattle.words.proofs.MachineLaws.{widened-back}
-use Rattle.model.specs.Samples.{is_missing}
 use Rattle.ascii_plain.specs.Rows.{sample_chars}
-use Rattle.ascii_plain.proofs.LengthLaws.{chars-missing, chars-there, chars-short}
+use Rattle.ascii_plain.proofs.LengthLaws.{missing-tested, chars-missing, chars-there, chars-short}
 use Rattle.ascii_plain.proofs.sample_length.Goals as goal
 use Rattle.ascii_plain.proofs.sample_length.Goals.{After-is_missing, After-missing_length, After-plain_length}
-
-tested : (c : After-is_missing) → is_missing c.args.z ≡ c.is_missing.result
-tested c = sym (c.is_missing.ensures ∙ ap is_missing (to_z-of_z w32 c.args.z c.ranges.z))
-
-tested-after-plain_length : (c : After-plain_length) → is_missing c.args.z ≡ c.is_missing.result
-tested-after-plain_length c = sym (c.is_missing.ensures ∙ ap is_missing (to_z-of_z w32 c.args.z c.ranges.z))
 
 -- the length of the sample, by the test
 there : (c : After-plain_length) → c.plain_length.result ≡ length (sample_chars c.args.layout c.args.z)
@@ -23,16 +14,13 @@ there c =
     c.plain_length.ensures
     ∙ rw (
       widened-back c.args.z c.widened.result c.ranges.z c.widened.ensures,
-      chars-there c.args.layout c.args.z (tested-after-plain_length c ∙ c.if-not-is_missing.true),
+      chars-there c.args.layout c.args.z (missing-tested c.args.z c.is_missing.result c.ranges.z c.is_missing.ensures ∙ c.if-not-is_missing.true),
     )
-
-tested-after-missing_length : (c : After-missing_length) → is_missing c.args.z ≡ c.is_missing.result
-tested-after-missing_length c = sym (c.is_missing.ensures ∙ ap is_missing (to_z-of_z w32 c.args.z c.ranges.z))
 
 none : (c : After-missing_length) → c.missing_length.result ≡ length (sample_chars c.args.layout c.args.z)
 none c =
     c.missing_length.ensures
-    ∙ rw (chars-missing c.args.layout c.args.z (tested-after-missing_length c ∙ c.if-not-is_missing.false))
+    ∙ rw (chars-missing c.args.layout c.args.z (missing-tested c.args.z c.is_missing.result c.ranges.z c.is_missing.ensures ∙ c.if-not-is_missing.false))
 
 pub overflow_add-result : goal.overflow_add-result
 overflow_add-result c =

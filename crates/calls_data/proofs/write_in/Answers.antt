@@ -38,17 +38,9 @@ enough c =
 there : (c : Else-not-has_row) → has_row c.args.layout c.args.n ≡ true
 there c = sym c.has_row.ensures ∙ c.if-not-has_row.false
 
-ok-after-first_unfit-bad : (c : After-first_unfit-bad) → is_sized c.args.layout ≡ true
-ok-after-first_unfit-bad c = sym c.is_sized.ensures ∙ c.if-not-is_sized.false
-
-fit-after-first_unfit-bad : (c : After-first_unfit-bad) → Sized c.args.layout
-fit-after-first_unfit-bad c = sized c.args.layout (ok-after-first_unfit-bad c)
-
 -- the first place that does not fit is one of the row's, or there is none
-small : (c : After-first_unfit-bad) → c.first_unfit-bad.result ≤ 353
-small c =
-    let size = fit-after-first_unfit-bad c in
-    rw c.first_unfit-bad.ensures (omega (arith, unfit-le c.args.layout c.args.zs.now, size.analogs, size.statuses))
+small : (c : After-first_unfit-bad) → Sized c.args.layout → c.first_unfit-bad.result ≤ 353
+small c size = rw c.first_unfit-bad.ensures (omega (arith, unfit-le c.args.layout c.args.zs.now, size.analogs, size.statuses))
 
 wrong : (c : Then-bad-count) → eqb (unfit c.args.layout c.args.zs.now) (places_of c.args.layout) ≡ false
 wrong c = rw (← c.first_unfit-bad.ensures, ← c.places_of-count.ensures) (ne_eqb _ _ c.if-bad-count.true)
@@ -90,10 +82,10 @@ pub first_unfit-bad-requires : goal.first_unfit-bad-requires
 first_unfit-bad-requires c = (fit (goal.at.first_unfit-bad-requires c).Else-not-is_sized, within (goal.at.first_unfit-bad-requires c).Else-zs-count)
 
 pub overflow_cast-bad : goal.overflow_cast-bad
-overflow_cast-bad c = omega (arith, small (goal.at.overflow_cast-bad c).After-first_unfit-bad)
+overflow_cast-bad c = omega (arith, small (goal.at.overflow_cast-bad c).After-first_unfit-bad (fit (goal.at.overflow_cast-bad c).Else-not-is_sized))
 
 pub overflow_add-bad : goal.overflow_add-bad
-overflow_add-bad c = omega (arith, small (goal.at.overflow_add-bad c).After-first_unfit-bad)
+overflow_add-bad c = omega (arith, small (goal.at.overflow_add-bad c).After-first_unfit-bad (fit (goal.at.overflow_add-bad c).Else-not-is_sized))
 
 pub returns-then-bad-count : goal.returns-then-bad-count
 unfolding row_asked write_in

@@ -20,7 +20,7 @@ use Prim.Native.Nat.{ℕ, ◌≤◌, ◌+◌, ◌-◌}
 use mathlib.Core.List.{List, ◌++◌, append-nil}
 use mathlib.Core.Path.{◌≡◌, refl, sym, ap, ◌∙◌}
 use Rattle.change.proofs.write_rows.Goals as goal
-use Rattle.change.proofs.write_rows.Goals.{After-row_here-row, After-row_length, After-taken_here-taken, In-loop-i}
+use Rattle.change.proofs.write_rows.Goals.{After-row_length, After-taken_here-taken, In-loop-i}
 
 pub loop-i-init : goal.loop-i-init
 unfolding rows_length
@@ -41,22 +41,16 @@ row_length-requires c =
     rw c.in_kind-new.ensures (sized-in c.args.kind c.args.layout c.requires.sized.0)
 
 -- the row is the file's, takes its length, and lies within the slice
-row : (c : After-row_here-row)
+row : (c : After-row_length)
     → c.row_here-row.result ≡ row_at c.args.layout c.args.«data».now c.loop-i.i
 row c =
-    let p = c.loop-i in
-    rw (c.row_here-row.ensures, row-here c.args.layout c.args.«data».now p.i, ← p.invariant.2)
-
-row-after-row_length : (c : After-row_length)
-    → c.row_here-row.result ≡ row_at c.args.layout c.args.«data».now c.loop-i.i
-row-after-row_length c =
     let p = c.loop-i in
     rw (c.row_here-row.ensures, row-here c.args.layout c.args.«data».now p.i, ← p.invariant.2)
 
 long : (c : After-row_length)
     → let i = c.loop-i.i in
     c.row_length.result ≡ length_of c.in_kind-new.result (i + 1) (row_at c.args.layout c.args.«data».now i)
-long c = c.row_length.ensures ∙ rw (row-after-row_length c)
+long c = c.row_length.ensures ∙ rw (row c)
 
 room : (c : After-row_length) → c.loop-i.from + c.row_length.result ≤ length c.loop-i.d
 room c =
@@ -82,7 +76,7 @@ put_row-requires c =
     let lay : (to - p.from) ≡ c.row_length.result = omega arith in (
       rw new (sized-in c.args.kind c.args.layout c.requires.sized.0),
       length_part p.from to p.d (room (goal.at.put_row-requires c).After-row_length) ∙ lay ∙ c.row_length.ensures,
-      rw (row (goal.at.put_row-requires c).After-row_here-row, new) (c.requires.d_len.1 p.i c.loop-i-test.true),
+      rw (row (goal.at.put_row-requires c).After-row_length, new) (c.requires.d_len.1 p.i c.loop-i-test.true),
     )
 
 pub taken_here-taken-requires : goal.taken_here-taken-requires
@@ -107,7 +101,7 @@ loop-i-preserved c =
     let p = c.loop-i in
     let to = p.from + c.row_length.result in
     let ys = c.put_row.new.d in
-    let y : ys ≡ bytes_of n (p.i + 1) (r p.i) = c.put_row.ensures ∙ rw (row (goal.at.loop-i-preserved c).After-row_here-row) in
+    let y : ys ≡ bytes_of n (p.i + 1) (r p.i) = c.put_row.ensures ∙ rw (row (goal.at.loop-i-preserved c).After-row_length) in
     let b : length ys ≡ c.row_length.result = ap length y ∙ sym (length-bytes n (p.i + 1) (r p.i)) ∙ sym (long (goal.at.loop-i-preserved c).After-row_length) in
     let next = put_next c.args.d.now (rows_bytes n r p.i) ys p.from to (length-rows n r p.i ∙ sym p.invariant.4) (omega arith) in
     let more : rows_bytes n r p.i ++ ys ≡ rows_bytes n r (p.i + 1)

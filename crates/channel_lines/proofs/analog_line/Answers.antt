@@ -3,8 +3,6 @@ use borrow.Author.Tests.{eq-eqb, ne_eqb}
 use Rattle.channel_lines.specs.Channels.{names, scale, limits, analog_line}
 use Rattle.channel_lines.proofs.PlaceLaws.{names-is, scale-is, limits-is}
 use mathlib.Core.Path.{◌≡◌}
-use mathlib.Core.List.{List}
-use Prim.Native.Nat.{ℕ}
 use Rattle.ground.specs.Said.{says}
 use Rattle.text.specs.Fields.{field_at}
 use Rattle.line_fields.specs.Faults.{real_fault, side_fault}
@@ -21,25 +19,13 @@ scaled c = rw (scale-is _, ← c.scale_fault-scale.ensures, eq-eqb _ 0 c.if-scal
 limited : (c : Else-limits-ne0) → limits c.args.line.now ≡ says tt
 limited c = rw (limits-is _, ← c.limits_fault-limits.ensures, eq-eqb _ 0 c.if-limits-ne0.false)
 
-abbrev line : Else-limits-ne0 → List ℕ
-line c = c.args.line.now
-
-abbrev line-else-e11-ne0 : Else-e11-ne0 → List ℕ
-line-else-e11-ne0 c = c.args.line.now
-
-primary : (c : Else-e11-ne0) → real_fault (field_at 11 (line-else-e11-ne0 c)) ≡ 0
+primary : (c : Else-e11-ne0) → real_fault (field_at 11 c.args.line.now) ≡ 0
 primary c = rw (← c.field_at.ensures, ← c.real_fault-e11.ensures) c.if-e11-ne0.false
 
-abbrev line-else-e12-ne0 : Else-e12-ne0 → List ℕ
-line-else-e12-ne0 c = c.args.line.now
-
-secondary : (c : Else-e12-ne0) → real_fault (field_at 12 (line-else-e12-ne0 c)) ≡ 0
+secondary : (c : Else-e12-ne0) → real_fault (field_at 12 c.args.line.now) ≡ 0
 secondary c = rw (← c.field_at-2.ensures, ← c.real_fault-e12.ensures) c.if-e12-ne0.false
 
-abbrev line-else-e13-ne0 : Else-e13-ne0 → List ℕ
-line-else-e13-ne0 c = c.args.line.now
-
-side : (c : Else-e13-ne0) → side_fault (field_at 13 (line-else-e13-ne0 c)) ≡ 0
+side : (c : Else-e13-ne0) → side_fault (field_at 13 c.args.line.now) ≡ 0
 side c = rw (← c.field_at-3.ensures, ← c.side_fault-e13.ensures) c.if-e13-ne0.false
 
 pub returns-then-names-ne0 : goal.returns-then-names-ne0

@@ -1,8 +1,7 @@
 -- `channels_line` meets its contract: A and D are small, so their sum fits.
 use borrow.Author.Tests.{eq-eqb, ne_eqb}
 use mathlib.Core.Path.{◌≡◌}
-use mathlib.Core.List.{List}
-use Prim.Native.Nat.{ℕ, ◌≤◌}
+use Prim.Native.Nat.{◌≤◌}
 use native.Mathlib.Omega.{arith}
 use Rattle.channel_lines.specs.Channels.{channels_line}
 use Rattle.line_fields.proofs.ValueLaws.{lettered-le, number_is}
@@ -17,25 +16,16 @@ use Rattle.channel_lines.proofs.channels_line.Goals.{Else-a-ne0, Else-d-ne0, Els
 counted : (c : Else-field_count-ne3) → field_count c.args.line.now ≡ 3
 counted c = rw (← c.field_count.ensures) c.if-field_count-ne3.false
 
-abbrev line : Else-t-ne0 → List ℕ
-line c = c.args.line.now
-
-total : (c : Else-t-ne0) → value 1 (read_count_in 6 1 352) (line c) ≡ says c.value_of-t.result.value
+total : (c : Else-t-ne0) → value 1 (read_count_in 6 1 352) c.args.line.now ≡ says c.value_of-t.result.value
 total c =
     rw (← c.field_at.ensures, ← c.read_count_in.ensures, number_is 1 _, ← c.value_of-t.ensures, eq-eqb _ 0 c.if-t-ne0.false)
 
-abbrev line-else-a-ne0 : Else-a-ne0 → List ℕ
-line-else-a-ne0 c = c.args.line.now
-
-analogs : (c : Else-a-ne0) → value 2 (read_lettered 65 96) (line-else-a-ne0 c) ≡ says c.value_of-a.result.value
+analogs : (c : Else-a-ne0) → value 2 (read_lettered 65 96) c.args.line.now ≡ says c.value_of-a.result.value
 analogs c =
     rw (← c.field_at-2.ensures, ← c.read_lettered.ensures, number_is 2 _, ← c.value_of-a.ensures, eq-eqb _ 0 c.if-a-ne0.false)
 
-abbrev line-else-d-ne0 : Else-d-ne0 → List ℕ
-line-else-d-ne0 c = c.args.line.now
-
 statuses : (c : Else-d-ne0)
-    → value 3 (read_lettered 68 256) (line-else-d-ne0 c) ≡ says c.value_of-d.result.value
+    → value 3 (read_lettered 68 256) c.args.line.now ≡ says c.value_of-d.result.value
 statuses c =
     rw (← c.field_at-3.ensures, ← c.read_lettered-2.ensures, number_is 3 _, ← c.value_of-d.ensures, eq-eqb _ 0 c.if-d-ne0.false)
 

@@ -42,22 +42,14 @@ found : (c : After-first_misfit-bad)
 unfolding misfit_of
 found c = sym c.first_misfit-bad.ensures
 
-ok-after-first_misfit-bad : (c : After-first_misfit-bad) → is_sized c.args.layout ≡ true
-ok-after-first_misfit-bad c = sym c.is_sized.ensures ∙ c.if-not-is_sized.false
-
-fit-after-first_misfit-bad : (c : After-first_misfit-bad) → Sized c.args.layout
-fit-after-first_misfit-bad c = sized c.args.layout (ok-after-first_misfit-bad c)
-
-small : (c : After-first_misfit-bad) → c.first_misfit-bad.result ≤ 96
-small c =
-    let s = fit-after-first_misfit-bad c in
-    rw c.first_misfit-bad.ensures (omega (arith, misfit-le c.args.layout c.args.row.samples))
+small : (c : After-first_misfit-bad) → Sized c.args.layout → c.first_misfit-bad.result ≤ 96
+small c s = rw c.first_misfit-bad.ensures (omega (arith, misfit-le c.args.layout c.args.row.samples))
 
 pub overflow_cast-field : goal.overflow_cast-field
-overflow_cast-field c = omega (arith, small c)
+overflow_cast-field c = omega (arith, small c (fit (goal.at.overflow_cast-field c).Else-not-is_sized))
 
 pub overflow_add-field : goal.overflow_add-field
-overflow_add-field c = omega (arith, small c)
+overflow_add-field c = omega (arith, small c (fit (goal.at.overflow_add-field c).Else-not-is_sized))
 
 pub row_length-size-requires : goal.row_length-size-requires
 row_length-size-requires c = fit (goal.at.row_length-size-requires c).Else-not-is_sized

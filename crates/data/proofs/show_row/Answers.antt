@@ -32,26 +32,23 @@ returns-then-not-has_row c =
 there : (c : Else-not-has_row) → has_row c.args.layout c.args.n ≡ true
 there c = sym c.has_row.ensures ∙ c.if-not-has_row.false
 
-ok-else-not-has_row : (c : Else-not-has_row) → is_sized c.args.layout ≡ true
-ok-else-not-has_row c = sym c.is_sized.ensures ∙ c.if-not-is_sized.false
-
-asked : (c : Else-not-has_row)
+asked : (c : Else-not-has_row) → is_sized c.args.layout ≡ true
     → (1 ≤ c.args.n) × ((Sized c.args.layout) × (c.args.n - 1 < c.args.layout.rows))
-asked c =
+asked c sizes =
     let t = row_told c.args.layout c.args.n (there c) in
-    (t.0, (sized c.args.layout (ok-else-not-has_row c), omega arith))
+    (t.0, (sized c.args.layout sizes, omega arith))
 
 pub overflow_sub-n : goal.overflow_sub-n
-overflow_sub-n c = (asked (goal.at.overflow_sub-n c).Else-not-has_row).0
+overflow_sub-n c = (asked (goal.at.overflow_sub-n c).Else-not-has_row (ok (goal.at.overflow_sub-n c).Else-not-is_sized)).0
 
 pub show_text-requires : goal.show_text-requires
-show_text-requires c = (asked (goal.at.show_text-requires c).Else-not-has_row).1
+show_text-requires c = (asked (goal.at.show_text-requires c).Else-not-has_row (ok (goal.at.show_text-requires c).Else-not-is_sized)).1
 
 pub overflow_sub-n-in-Binary : goal.overflow_sub-n-in-Binary
-overflow_sub-n-in-Binary c = (asked (goal.at.overflow_sub-n-in-Binary c).Else-not-has_row).0
+overflow_sub-n-in-Binary c = (asked (goal.at.overflow_sub-n-in-Binary c).Else-not-has_row (ok (goal.at.overflow_sub-n-in-Binary c).Else-not-is_sized)).0
 
 pub show_binary-requires : goal.show_binary-requires
-show_binary-requires c = (asked (goal.at.show_binary-requires c).Else-not-has_row).1
+show_binary-requires c = (asked (goal.at.show_binary-requires c).Else-not-has_row (ok (goal.at.show_binary-requires c).Else-not-is_sized)).1
 
 pub returns-in-Ascii : goal.returns-in-Ascii
 unfolding show_row file_fine row_at

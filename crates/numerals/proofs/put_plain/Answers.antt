@@ -16,12 +16,9 @@ use Rattle.numerals.proofs.put_plain.Goals.{After-below_zero, Then-below_zero}
 told : (c : After-below_zero) → plain c.args.z ≡ (if c.below_zero.result then 45 ∷ decimal c.size-v.result else decimal c.size-v.result)
 told c = plain-told c.args.z c.size-v.result c.below_zero.result c.ranges.z c.size-v.ensures c.below_zero.ensures
 
-told-then-below_zero : (c : Then-below_zero) → plain c.args.z ≡ (if c.below_zero.result then 45 ∷ decimal c.size-v.result else decimal c.size-v.result)
-told-then-below_zero c = plain-told c.args.z c.size-v.result c.below_zero.result c.ranges.z c.size-v.ensures c.below_zero.ensures
-
 -- and so how long the part is
 long : (c : Then-below_zero) → length c.args.d.now ≡ 1 + length (decimal c.size-v.result)
-long c = c.requires ∙ rw (told-then-below_zero c, c.if-below_zero.true) (omega arith)
+long c = c.requires ∙ rw (plain-told c.args.z c.size-v.result c.below_zero.result c.ranges.z c.size-v.ensures c.below_zero.ensures, c.if-below_zero.true) (omega arith)
 
 pub bounds-d-0 : goal.bounds-d-0
 bounds-d-0 c = omega (arith, long c)

@@ -37,24 +37,17 @@ size : (c : After-row_size-fresh)
     → c.row_size-fresh.result ≡ row_size (in_kind c.args.new c.args.layout)
 size c = c.row_size-fresh.ensures ∙ rw c.in_kind.ensures
 
-long-in-loop-i : (c : In-loop-i) → length c.args.«data».now ≡ c.args.layout.rows * row_size c.args.layout
-long-in-loop-i c = (whole c.args.layout c.args.«data».now c.requires.sized.1).0
-
 -- row i lies within both files
 room : (c : In-loop-i)
     → let n = c.row_size-size.result in c.loop-i.i * n + n ≤ length c.args.«data».now
 room c =
-    rw c.row_size-size.ensures (row-end c.args.layout c.args.«data».now c.loop-i.i (long-in-loop-i c) (omega arith))
+    rw c.row_size-size.ensures (row-end c.args.layout c.args.«data».now c.loop-i.i (whole c.args.layout c.args.«data».now c.requires.sized.1).0 (omega arith))
 
-size-in-loop-i : (c : In-loop-i)
-    → c.row_size-fresh.result ≡ row_size (in_kind c.args.new c.args.layout)
-size-in-loop-i c = c.row_size-fresh.ensures ∙ rw c.in_kind.ensures
-
-new-room : (c : In-loop-i)
+new-room : (c : In-loop-i) → c.row_size-fresh.result ≡ row_size (in_kind c.args.new c.args.layout)
     → let n = c.row_size-fresh.result in c.loop-i.i * n + n ≤ length c.loop-i.d
-new-room c =
+new-room c size =
     let p = c.loop-i in
-    rw (p.invariant.1, c.requires.d_len.0, ← size-in-loop-i c) (block-end p.i c.args.layout.rows c.row_size-fresh.result (omega arith))
+    rw (p.invariant.1, c.requires.d_len.0, ← size) (block-end p.i c.args.layout.rows c.row_size-fresh.result (omega arith))
 
 pub overflow_mul-from : goal.overflow_mul-from
 overflow_mul-from c = omega (arith, room (goal.at.overflow_mul-from c).In-loop-i)
@@ -63,16 +56,16 @@ pub overflow_add-to : goal.overflow_add-to
 overflow_add-to c = omega (arith, room (goal.at.overflow_add-to c).In-loop-i)
 
 pub overflow_mul-at : goal.overflow_mul-at
-overflow_mul-at c = omega (arith, new-room (goal.at.overflow_mul-at c).In-loop-i)
+overflow_mul-at c = omega (arith, new-room (goal.at.overflow_mul-at c).In-loop-i (size (goal.at.overflow_mul-at c).After-row_size-fresh))
 
 pub overflow_add-end : goal.overflow_add-end
-overflow_add-end c = omega (arith, new-room (goal.at.overflow_add-end c).In-loop-i)
+overflow_add-end c = omega (arith, new-room (goal.at.overflow_add-end c).In-loop-i (size (goal.at.overflow_add-end c).After-row_size-fresh))
 
 pub slice_bounds-recode_row-end : goal.slice_bounds-recode_row-end
 slice_bounds-recode_row-end c = room (goal.at.slice_bounds-recode_row-end c).In-loop-i
 
 pub slice_bounds-recode_row-end-in-loop-i : goal.slice_bounds-recode_row-end-in-loop-i
-slice_bounds-recode_row-end-in-loop-i c = new-room (goal.at.slice_bounds-recode_row-end-in-loop-i c).In-loop-i
+slice_bounds-recode_row-end-in-loop-i c = new-room (goal.at.slice_bounds-recode_row-end-in-loop-i c).In-loop-i (size (goal.at.slice_bounds-recode_row-end-in-loop-i c).After-row_size-fresh)
 
 pub recode_row-requires : goal.recode_row-requires
 unfolding misfit_in binary_row
@@ -91,7 +84,7 @@ recode_row-requires c =
         rw old (file-there l s c.requires.sized.1 c.requires.sized.0 known i h),
         rw old (c.requires.sized.2 i h),
       );
-      d_len = (length_part at (at + c.row_size-fresh.result) p.d (new-room (goal.at.recode_row-requires c).In-loop-i) ∙ omega (arith, size (goal.at.recode_row-requires c).After-row_size-fresh), c.requires.d_len.1);
+      d_len = (length_part at (at + c.row_size-fresh.result) p.d (new-room (goal.at.recode_row-requires c).In-loop-i (size (goal.at.recode_row-requires c).After-row_size-fresh)) ∙ omega (arith, size (goal.at.recode_row-requires c).After-row_size-fresh), c.requires.d_len.1);
     }
 
 pub loop-i-preserved : goal.loop-i-preserved
@@ -108,7 +101,7 @@ loop-i-preserved c =
     let y : ys ≡ binary_of (in_kind m l) (p.i + 1) (binary_row l p.i s) = put.ensures ∙ rw c.row_size-size.ensures in
     let t =
     cat-turn (λ j. binary_of (in_kind m l) (j + 1) (binary_row l j s)) w (λ j. length-row (in_kind m l) (j + 1) (binary_row l j s) ∙ sym e)
-    c.args.d.now p.d ys p.i p.invariant.1 p.invariant.2 (new-room (goal.at.loop-i-preserved c).In-loop-i) y in
+    c.args.d.now p.d ys p.i p.invariant.1 p.invariant.2 (new-room (goal.at.loop-i-preserved c).In-loop-i (size (goal.at.loop-i-preserved c).After-row_size-fresh)) y in
     (omega arith, t.0, t.1)
 
 pub returns : goal.returns

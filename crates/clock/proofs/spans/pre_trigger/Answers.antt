@@ -1,4 +1,4 @@
--- `pre_trigger` meets its contract: the difference fits_pattern, and one less than it.
+-- `pre_trigger` meets its contract: the difference fits, and one less than it.
 use mathlib.Core.Path.{◌≡◌}
 use native.Mathlib.Omega.{arith}
 use borrow.Author.Tests.{le-leb, lt-leb}
@@ -6,6 +6,8 @@ use lib.IntN.{ℤ, pos, ◌-ℤ◌}
 use mir.Syntax.{w64}
 use mir.Val.{SFits, to_z, of_z}
 use mir.ValLaws.{to_z-of_z}
+use Rattle.clock.specs.declared.Date.{Date}
+use Rattle.clock.specs.declared.Time.{Time}
 use Rattle.clock.specs.Spans.{second_number, span_of, pre_trigger}
 use Rattle.clock.proofs.TimeLaws.{time-bounds}
 use Rattle.words.proofs.MachineLaws.{read_back}
@@ -13,28 +15,23 @@ use Rattle.clock.proofs.SpanLaws.{seconds-fit, less-fit}
 use Rattle.clock.proofs.spans.pre_trigger.Goals as goal
 use Rattle.clock.proofs.spans.pre_trigger.Goals.{After-second_number-2, Start}
 
--- the difference in whole seconds, which fits_pattern, and one less than it
-abbrev apart : Start → ℤ
-apart c =
-    second_number c.args.trigger_date c.args.trigger_time -ℤ second_number c.args.first_date c.args.first_time
+-- the difference in whole seconds, which fits, and one less than it
+abbrev apart : Date → Time → Date → Time → ℤ
+apart d t e u = second_number e u -ℤ second_number d t
 
-apart_fits : (c : Start) → SFits w64 (apart c)
+apart_fits : (c : Start) → SFits w64 (apart c.args.first_date c.args.first_time c.args.trigger_date c.args.trigger_time)
 apart_fits c =
     let p = c.requires in
     seconds-fit c.args.first_date c.args.first_time p.0 p.1 c.args.trigger_date c.args.trigger_time p.2 p.3
 
-less-fits : (c : Start) → SFits w64 (apart c -ℤ pos 1)
+less-fits : (c : Start) → SFits w64 (apart c.args.first_date c.args.first_time c.args.trigger_date c.args.trigger_time -ℤ pos 1)
 less-fits c =
     let p = c.requires in
     less-fit c.args.first_date c.args.first_time p.0 p.1 c.args.trigger_date c.args.trigger_time p.2 p.3
 
-abbrev apart-after-second_number-2 : After-second_number-2 → ℤ
-apart-after-second_number-2 c =
-    second_number c.args.trigger_date c.args.trigger_time -ℤ second_number c.args.first_date c.args.first_time
-
 -- it is what the machine takes from what
 told : (c : After-second_number-2)
-    → to_z w64 (of_z w64 c.second_number.result) -ℤ to_z w64 (of_z w64 c.second_number-2.result) ≡ apart-after-second_number-2 c
+    → to_z w64 (of_z w64 c.second_number.result) -ℤ to_z w64 (of_z w64 c.second_number-2.result) ≡ apart c.args.first_date c.args.first_time c.args.trigger_date c.args.trigger_time
 told c =
     let t = c.second_number in
     let f = c.second_number-2 in

@@ -4,9 +4,9 @@
 use mathlib.Core.Path.{◌≡◌, refl}
 use mathlib.Core.List.{List}
 use Prim.Native.Nat.{ℕ}
-use Rattle.ground.specs.Said.{Said, says, refuses}
+use Rattle.ground.specs.Said.{Said, says, refuses, answer_of}
 use Rattle.model.specs.declared.Refusal.{Refusal}
-use Rattle.model.specs.Refusals.{written_of, needed_of}
+use Rattle.model.specs.Refusals.{written_of}
 use Rattle.answers.specs.Answers.{told, told_written}
 use Rattle.answers.specs.Inner.{counted}
 
@@ -14,6 +14,6 @@ pub counted-written : (x : Said Refusal (List ℕ)) → counted (written_of x) �
 counted-written (says new) = refl
 counted-written (refuses r) = refl
 
-pub counted-needed : (x : Said Refusal ℕ) → counted (needed_of x) ≡ told x
+pub counted-needed : (x : Said Refusal ℕ) → counted (answer_of x) ≡ told x
 counted-needed (says m) = refl
 counted-needed (refuses r) = refl

@@ -3,18 +3,13 @@
 use Rattle.std.specs.Prelude.{List, ℕ, leb, length}
 use Rattle.ground.specs.Said.{Said, says, refuses, ◌>>◌, must}
 use Rattle.model.specs.declared.Kind.{Kind}
-use Rattle.model.specs.declared.KindNo.{KindNo}
-use Rattle.model.specs.declared.KindNo.TheVariants as number
+use Rattle.std.specs.Prelude.{None, Option, Some}
 use Rattle.model.specs.declared.Edition.{Edition}
-use Rattle.model.specs.declared.EditionNo.{EditionNo}
-use Rattle.model.specs.declared.EditionNo.TheVariants as year
 use Rattle.model.specs.declared.Layout.{Layout}
 use Rattle.model.specs.declared.Refusal.{Refusal}
 use Rattle.model.specs.Kinds.{kind_of}
 use Rattle.model.specs.Editions.{edition_of}
 use Rattle.model.specs.Refusals.{refused}
-use Rattle.answers.specs.declared.LayoutNo.{LayoutNo}
-use Rattle.answers.specs.declared.LayoutNo.TheVariants as layout
 use Rattle.answers.specs.declared.zl_answer.{zl_answer}
 
 -- yes, with so many bytes
@@ -41,28 +36,28 @@ told_shown (says zs) = yes 0
 told_shown (refuses r) = no r
 
 -- a kind by its number; 10 for a number that no kind has
-abbrev pub kind_said : KindNo → Said Refusal Kind
-kind_said (number.Is k) = says k
-kind_said number.None = refuses (refused 10 0 0)
+abbrev pub kind_said : Option Kind → Said Refusal Kind
+kind_said (Some k) = says k
+kind_said None = refuses (refused 10 0 0)
 
 -- the layout of three numbers, a kind and an edition
 abbrev pub layout_by : ℕ → ℕ → ℕ → Kind → Edition → Layout
 layout_by a d rows k e = record { analogs = a; statuses = d; rows = rows; kind = k; edition = e }
 
 -- the same, where there is such a kind and such an edition
-abbrev pub layout_in : ℕ → ℕ → ℕ → KindNo → EditionNo → LayoutNo
-layout_in a d rows (number.Is k) (year.Is e) = layout.Is (layout_by a d rows k e)
-layout_in a d rows (number.Is k) year.None = layout.None
-layout_in a d rows number.None e = layout.None
+abbrev pub layout_in : ℕ → ℕ → ℕ → Option Kind → Option Edition → Option Layout
+layout_in a d rows (Some k) (Some e) = Some (layout_by a d rows k e)
+layout_in a d rows (Some k) None = None
+layout_in a d rows None e = None
 
 -- the layout of five numbers: the kind by its number, the edition by its year
-unfoldable pub layout_of : ℕ → ℕ → ℕ → ℕ → ℕ → LayoutNo
+unfoldable pub layout_of : ℕ → ℕ → ℕ → ℕ → ℕ → Option Layout
 layout_of a d rows kind edition = layout_in a d rows (kind_of kind) (edition_of edition)
 
 -- such a layout; 10 for a number that no kind has, and for a year that no edition has
-abbrev pub layout_said : LayoutNo → Said Refusal Layout
-layout_said (layout.Is l) = says l
-layout_said layout.None = refuses (refused 10 0 0)
+abbrev pub layout_said : Option Layout → Said Refusal Layout
+layout_said (Some l) = says l
+layout_said None = refuses (refused 10 0 0)
 
 -- places that fit the room: 17 where they do not
 abbrev pub placed : {A : Type 0} → ℕ → List A → ℕ → Said Refusal (List A)

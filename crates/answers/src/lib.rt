@@ -3,13 +3,12 @@
 #![tactic(auto)]
 
 ghost use Rattle.std.specs.Prelude.{◌≡◌};
-ghost use Rattle.model.specs.declared.KindNo.TheVariants as number;
 ghost use Rattle.model.specs.Editions.{edition_of};
 ghost use Rattle.model.specs.Refusals.{FewBytes};
 ghost use Rattle.answers.specs.Answers.{yes, no, layout_by, layout_in, layout_of};
 ghost use Rattle.answers.specs.Inner.{plainly, counted};
 
-use model::{Answer, Edition, EditionNo, Kind, KindNo, Layout, Refusal, Written};
+use model::{Edition, Kind, Layout, Refusal};
 
 // The refusal's number and place, zeros for yes; the length in bytes where the call has one, 0 elsewhere.
 #[repr(C)]
@@ -44,31 +43,24 @@ pub fn no(refusal: Refusal) -> zl_answer
 }
 
 // The answer of a call that has no length.
-pub fn plainly(answer: Answer) -> zl_answer
+pub fn plainly(answer: Result<(), Refusal>) -> zl_answer
     ensures { result ≡ plainly answer }
 {
     match answer {
-        Answer::Yes => yes(0),
-        Answer::No(refusal) => no(refusal),
+        Ok(()) => yes(0),
+        Err(refusal) => no(refusal),
     }
 }
 
 // How many bytes are written or needed.
-pub fn counted(answer: Written) -> zl_answer
+pub fn counted(answer: Result<usize, Refusal>) -> zl_answer
     requires { FewBytes answer }
     ensures { result ≡ counted answer }
 {
     match answer {
-        Written::Bytes(size) => yes(size as u32),
-        Written::No(refusal) => no(refusal),
+        Ok(size) => yes(size as u32),
+        Err(refusal) => no(refusal),
     }
-}
-
-// A layout, or that there is no such kind or edition.
-#[derive(Clone, Copy)]
-pub enum LayoutNo {
-    Is(Layout),
-    None,
 }
 
 // The layout of three numbers, a kind and an edition.
@@ -85,21 +77,18 @@ fn layout_by(a: u32, d: u32, rows: u32, kind: Kind, edition: Edition) -> Layout
 }
 
 // The layout of three numbers, a kind, and the edition of a year.
-fn layout_in(a: u32, d: u32, rows: u32, kind: Kind, edition: u32) -> LayoutNo
-    ensures { result ≡ layout_in a d rows (number.Is kind) (edition_of edition) }
+fn layout_in(a: u32, d: u32, rows: u32, kind: Kind, edition: u32) -> Option<Layout>
+    ensures { result ≡ layout_in a d rows (Some kind) (edition_of edition) }
 {
-    match Edition::of(edition as u64) {
-        EditionNo::Is(e) => LayoutNo::Is(layout_by(a, d, rows, kind, e)),
-        EditionNo::None => LayoutNo::None,
-    }
+    let e = Edition::of(edition as u64)?;
+    Some(layout_by(a, d, rows, kind, e))
 }
 
 // The layout of five numbers: the kind by its number, the edition by its year.
-pub fn layout_of(a: u32, d: u32, rows: u32, kind: u32, edition: u32) -> LayoutNo
+#[tactic(auto, unfolding(crate::specs::Answers::layout_of))]
+pub fn layout_of(a: u32, d: u32, rows: u32, kind: u32, edition: u32) -> Option<Layout>
     ensures { result ≡ layout_of a d rows kind edition }
 {
-    match Kind::of(kind) {
-        KindNo::Is(k) => layout_in(a, d, rows, k, edition),
-        KindNo::None => LayoutNo::None,
-    }
+    let k = Kind::of(kind)?;
+    layout_in(a, d, rows, k, edition)
 }

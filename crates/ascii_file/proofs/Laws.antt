@@ -15,24 +15,24 @@ use native.Mathlib.Nat.{suc-add}
 use native.Mathlib.Omega.{arith}
 use lib.Dec.{eqb}
 use lib.ListN.{length, get_or, take, drop}
-use Rattle.ground.specs.Said.{Said, says, refuses, ◌>>=◌, ◌>>◌}
+use Rattle.ground.specs.Said.{Said, says, refuses, ◌>>=◌, ◌>>◌, answer_of}
 use Rattle.ground.proofs.SaidLaws.{then-told}
-use Rattle.text.specs.declared.Scanned.{Scanned}
-use Rattle.text.specs.declared.Scanned.TheVariants.{Line, Ends, Bad}
+use Rattle.std.proofs.Common.{Err, Ok, Result}
+use Rattle.text.specs.declared.LineError.{LineError}
+use Rattle.text.specs.declared.Line.{Line}
+use Rattle.text.specs.declared.LineError.TheVariants.{Bad, Ends}
 use Rattle.text.proofs.LineLaws.{Found, scan-found, line-found}
 use Rattle.model.specs.declared.Layout.{Layout}
 use Rattle.model.specs.declared.Refusal.{Refusal}
 use Rattle.ascii_row.specs.Rows.{check_line}
 use Rattle.ascii_walk.specs.Inner.{RowThere}
-use Rattle.ascii_file.specs.declared.Checked.TheVariants.{Takes, No}
 use Rattle.ascii_file.specs.Files.{scan_row, found, take_row, is_ending, check_lines, line_length, line_taken, after_rows}
-use Rattle.ascii_file.specs.Inner.{checked_of}
 
-pub takes_told : (x : Said Refusal ℕ) (k : ℕ) → checked_of x ≡ Takes k → x ≡ says k
+pub takes_told : (x : Said Refusal ℕ) (k : ℕ) → answer_of x ≡ Ok k → x ≡ says k
 takes_told (says j) k e = cc
 takes_told (refuses r) k e = cc
 
-pub not-told : (x : Said Refusal ℕ) (r : Refusal) → checked_of x ≡ No r → x ≡ refuses r
+pub not-told : (x : Said Refusal ℕ) (r : Refusal) → answer_of x ≡ Err r → x ≡ refuses r
 not-told (says j) r e = cc
 not-told (refuses q) r e = cc
 
@@ -66,19 +66,19 @@ ending-not (b ∷ c ∷ d ∷ e ∷ s) f g h = refl
 -- a row that is fine is a line of len bytes, fine, and takes len + 2
 pub record RowTakes (l : Layout) (n : ℕ) (s : List ℕ) (k : ℕ) : Type 0 where
   pub len : ℕ
-  pub scanned : scan_row s ≡ Line len (len + 2)
+  pub scanned : scan_row s ≡ Ok (record { len = len; taken = (len + 2) })
   pub line : check_line l n (take len s) ≡ says tt
   pub takes : k ≡ len + 2
   pub within : k ≤ length s
 
-fine-from : (l : Layout) (n : ℕ) (s : List ℕ) (k : ℕ) (r : Scanned) → Found 1880 s r → scan_row s ≡ r
+fine-from : (l : Layout) (n : ℕ) (s : List ℕ) (k : ℕ) (r : Result Line LineError) → Found 1880 s r → scan_row s ≡ r
     → (found n r >>= (λ len. check_line l n (take len s) >> says (len + 2))) ≡ says k → RowTakes l n s k
-fine-from l n s k (Line len taken) f q e =
-    let t = then-told (check_line l n (take len s)) (says (len + 2)) k e in
-    let w : k ≡ len + 2 = cc in
-    record { len = len; scanned = q ∙ rw f.0; line = t.0; takes = w; within = omega (arith, f.1.within, f.0) }
-fine-from l n s k Ends f q e = record { len = 0; scanned = cc; line = cc; takes = cc; within = let z : k ≡ 0 = cc in omega arith }
-fine-from l n s k Bad f q e = record { len = 0; scanned = cc; line = cc; takes = cc; within = let z : k ≡ 0 = cc in omega arith }
+fine-from l n s k (Ok one) f q e =
+    let t = then-told (check_line l n (take one.len s)) (says (one.len + 2)) k e in
+    let w : k ≡ one.len + 2 = cc in
+    record { len = one.len; scanned = q ∙ rw f.0; line = t.0; takes = w; within = omega (arith, f.1.within, f.0) }
+fine-from l n s k (Err Ends) f q e = record { len = 0; scanned = cc; line = cc; takes = cc; within = let z : k ≡ 0 = cc in omega arith }
+fine-from l n s k (Err Bad) f q e = record { len = 0; scanned = cc; line = cc; takes = cc; within = let z : k ≡ 0 = cc in omega arith }
 
 pub row-takes-told : (l : Layout) (n : ℕ) (s : List ℕ) (k : ℕ) → take_row l n s ≡ says k → RowTakes l n s k
 unfolding take_row
@@ -94,10 +94,10 @@ pub rows-turn : (l : Layout) (s : List ℕ) (n end : ℕ) → n < end
 unfolding check_lines
 rows-turn l s n end h = let e : end - n ≡ suc (end - (n + 1)) = omega arith in rw e
 
-within-from : (s : List ℕ) (r : Scanned) → Found 1880 s r → (line_length r ≤ length s) × (line_taken r ≤ length s)
-within-from s (Line len taken) f = (omega (arith, f.1.within, f.0), f.1.within)
-within-from s Ends f = (omega arith, omega arith)
-within-from s Bad f = (omega arith, omega arith)
+within-from : (s : List ℕ) (r : Result Line LineError) → Found 1880 s r → (line_length r ≤ length s) × (line_taken r ≤ length s)
+within-from s (Ok one) f = (omega (arith, f.1.within, f.0), f.1.within)
+within-from s (Err Ends) f = (omega arith, omega arith)
+within-from s (Err Bad) f = (omega arith, omega arith)
 
 pub line-within : (s : List ℕ) → line_length (scan_row s) ≤ length s
 line-within s = (within-from s (scan_row s) (scan-found 1880 s)).0

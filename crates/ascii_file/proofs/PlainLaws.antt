@@ -14,7 +14,7 @@ use lib.IntN.{ℤ, pos}
 use Rattle.ground.proofs.Cases.{on_test, lt-or-ge}
 use Rattle.text.specs.Fields.{field_at}
 use Rattle.text.proofs.FieldLaws.{joined-ext, fields-joined}
-use Rattle.numerals.specs.declared.Whole.TheVariants.{Is}
+use Rattle.std.proofs.Common.{Some}
 use Rattle.numerals.specs.Wholes.{read_whole}
 use Rattle.numerals.specs.Decimals.{decimal, is_plain_count, is_plain}
 use Rattle.numerals.proofs.PlainLaws.{decimal-count}
@@ -35,7 +35,7 @@ pub time-again : (f : List ℕ) → is_plain_count f ≡ true → is_count (read
 time-again f p h = decimal-count 1 13 f (time_in f) p (time-read f h)
 
 -- a plain field that is read as a number is a plain number
-plain-number : (l : Layout) (f : List ℕ) (z : ℤ) → is_plain_sample l f ≡ true → read_whole f ≡ Is z → is_plain f ≡ true
+plain-number : (l : Layout) (f : List ℕ) (z : ℤ) → is_plain_sample l f ≡ true → read_whole f ≡ Some z → is_plain f ≡ true
 unfolding is_plain_sample
 plain-number l f z p e = on_test (marked l) (λ t. rw t at p) (λ t. rw (t, whole-some f z e) at p)
 

@@ -18,11 +18,9 @@ use lib.Seq.{take-append_seam, drop-append-add}
 use Rattle.ground.specs.Said.{says}
 use Rattle.ground.proofs.Cases.{on_test}
 use Rattle.ground.proofs.Tables.{tab-ext}
-use Rattle.text.specs.declared.Scanned.TheVariants.{Line}
+use Rattle.std.proofs.Common.{Ok, Some}
 use Rattle.text.specs.Fields.{after_fields}
 use Rattle.text.proofs.LineLaws.{line-scanned}
-use Rattle.numerals.specs.declared.Count.TheVariants as count
-use Rattle.numerals.specs.declared.Whole.TheVariants as whole
 use Rattle.numerals.specs.Decimals.{decimal}
 use Rattle.numerals.proofs.PlainLaws.{length-decimal, count-decimal}
 use Rattle.numerals.proofs.WholeLaws.{whole_plain}
@@ -47,7 +45,7 @@ pub record Fits (l : Layout) (r : Row) : Type 0 where
   pub time : r.time < 2 ^ 32
   pub samples : (i : ℕ) → i < l.analogs → fits l (get_or r.samples i (pos 0)) ≡ true
 
-pub time-back : (v : ℕ) → v < 2 ^ 32 → read_timestamp (decimal v) ≡ count.Is v
+pub time-back : (v : ℕ) → v < 2 ^ 32 → read_timestamp (decimal v) ≡ Some v
 unfolding read_timestamp
 time-back v h = rw (count-decimal 1 13 v (length-decimal v) (omega (arith, decimal-short v h)), le-leb v latest_time (omega arith))
 
@@ -59,7 +57,7 @@ missing-back l =
     (λ t. inr (t, rw (missing-mark l t) (whole_plain (pos 99999) (omega (arith, plain-short (pos 99999) (omega arith))))))
     (λ t. inl (t, missing-none l t)))
 
-pub sample-back : (l : Layout) (z : ℤ) → fits l z ≡ true → read_sample l (sample_chars l z) ≡ whole.Is z
+pub sample-back : (l : Layout) (z : ℤ) → fits l z ≡ true → read_sample l (sample_chars l z) ≡ Some z
 sample-back l z f =
     told-sample l (sample_chars l z) z
     (on_test (is_missing z)
@@ -105,7 +103,7 @@ module _ (l : Layout) (n : ℕ) (r : Row) (f : Fits l r) where
     unfolding text_of
     as_line = append_assoc (line_of l n r) (13 ∷ 10 ∷ []) rest
 
-    pub row-scanned : scan_row (text_of l n r ++ rest) ≡ Line (length (line_of l n r)) (length (line_of l n r) + 2)
+    pub row-scanned : scan_row (text_of l n r ++ rest) ≡ Ok (record { len = (length (line_of l n r)); taken = (length (line_of l n r) + 2) })
     row-scanned = rw as_line (line-scanned 1880 (line_of l n r) rest (line-bytes-plain l n r) (line-most l n r s h f.time f.samples))
 
     take-line : take (length (line_of l n r)) (text_of l n r ++ rest) ≡ line_of l n r

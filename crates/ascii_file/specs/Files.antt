@@ -2,8 +2,10 @@
 use Rattle.std.specs.Prelude.{Bool, true, false, ◌&&◌, List, [], ◌∷◌, ◌++◌, ℕ, zero, suc, ◌+◌, eqb, take, drop}
 use Rattle.ground.specs.Said.{Said, says, refuses, ◌>>=◌, ◌>>◌, must}
 use Rattle.ground.specs.Tables.{cat}
-use Rattle.text.specs.declared.Scanned.{Scanned}
-use Rattle.text.specs.declared.Scanned.TheVariants.{Line, Ends, Bad}
+use Rattle.std.specs.Prelude.{Err, Ok, Result}
+use Rattle.text.specs.declared.LineError.{LineError}
+use Rattle.text.specs.declared.Line.{Line}
+use Rattle.text.specs.declared.LineError.TheVariants.{Bad, Ends}
 use Rattle.text.specs.Lines.{scan_line}
 use Rattle.model.specs.declared.Layout.{Layout}
 use Rattle.model.specs.declared.Row.{Row}
@@ -13,14 +15,14 @@ use Rattle.ascii_row.specs.Rows.{check_line, row_of}
 use Rattle.ascii_plain.specs.Rows.{text_of}
 
 -- the line that a text begins with, of at most 1,880 bytes before its CR LF
-abbrev pub scan_row : List ℕ → Scanned
+abbrev pub scan_row : List ℕ → Result Line LineError
 scan_row s = scan_line 1880 s
 
 -- how many bytes row n's line has: 11 where the text ends early, 14 at a bad byte or one too many
-abbrev pub found : ℕ → Scanned → Said Refusal ℕ
-found n (Line len taken) = says len
-found n Ends = refuses (refused 11 n 0)
-found n Bad = refuses (refused 14 n 0)
+abbrev pub found : ℕ → Result Line LineError → Said Refusal ℕ
+found n (Ok one) = says one.len
+found n (Err Ends) = refuses (refused 11 n 0)
+found n (Err Bad) = refuses (refused 14 n 0)
 
 -- row n, with which s begins, is fine: how many bytes it takes with its CR LF
 unfoldable pub take_row : Layout → ℕ → List ℕ → Said Refusal ℕ
@@ -53,16 +55,14 @@ unfoldable pub check_text : Layout → List ℕ → Said Refusal (Unit {0})
 check_text l s = check_lines l s 1 l.rows
 
 -- how many bytes a line that was found has
-abbrev pub line_length : Scanned → ℕ
-line_length (Line len taken) = len
-line_length Ends = 0
-line_length Bad = 0
+abbrev pub line_length : Result Line LineError → ℕ
+line_length (Ok one) = one.len
+line_length (Err e) = 0
 
 -- how many it takes with its CR LF
-abbrev pub line_taken : Scanned → ℕ
-line_taken (Line len taken) = taken
-line_taken Ends = 0
-line_taken Bad = 0
+abbrev pub line_taken : Result Line LineError → ℕ
+line_taken (Ok one) = one.taken
+line_taken (Err e) = 0
 
 -- the line that a text begins with
 unfoldable pub first_line : List ℕ → List ℕ

@@ -3,51 +3,42 @@
 #![tactic(auto)]
 
 ghost use Rattle.std.specs.Prelude.{◌≡◌};
+ghost use Rattle.ground.specs.Said.{answer_of};
 ghost use Rattle.model.specs.Layouts.{Sized};
-ghost use Rattle.model.specs.Refusals.{answer_of};
 ghost use Rattle.ascii_file.specs.Files.{scan_row, take_row, is_ending, check_end, check_text, line_taken, first_line, after_rows, text_row};
-ghost use Rattle.ascii_file.specs.Inner.{checked_of};
 
-use model::{Answer, Layout, Refusal, Row};
-use text::Scanned;
+use model::{Layout, Refusal, Row};
+use text::LineError;
 
 // The most bytes of a row before its line end.
 const LONGEST: usize = 1880;
 
-// How many bytes a row takes, or why it is refused.
-#[derive(Clone, Copy)]
-pub enum Checked {
-    Takes(usize),
-    No(Refusal),
-}
-
 // Row n, with which `rest` begins, in the order of the rules: its line, then the fields of its line.
-fn check_in_order(layout: Layout, n: u32, rest: &[u8]) -> Checked
+#[tactic(auto, unfolding(crate::specs::Files::take_row))]
+fn check_in_order(layout: Layout, n: u32, rest: &[u8]) -> Result<usize, Refusal>
     requires { Sized layout }
-    ensures { result ≡ checked_of (take_row layout n rest.now) }
+    ensures { result ≡ answer_of (take_row layout n rest.now) }
 {
     match text::scan_line(rest, LONGEST) {
-        Scanned::Line { len, taken } => {
-            match ascii_row::check_line(layout, n, &rest[..len]) {
-                Answer::Yes => Checked::Takes(taken),
-                Answer::No(refusal) => Checked::No(refusal),
-            }
+        Ok(line) => {
+            ascii_row::check_line(layout, n, &rest[..line.len])?;
+            Ok(line.taken)
         }
-        Scanned::Ends => Checked::No(model::refused(11, n, 0)),
-        Scanned::Bad => Checked::No(model::refused(14, n, 0)),
+        Err(LineError::Ends) => Err(model::refused(11, n, 0)),
+        Err(LineError::Bad) => Err(model::refused(14, n, 0)),
     }
 }
 
 // Row n, with which `rest` begins: read through in one walk, and only where that does not say yes, in the order of the rules.
-pub fn take_row(layout: Layout, n: u32, rest: &[u8]) -> Checked
+pub fn take_row(layout: Layout, n: u32, rest: &[u8]) -> Result<usize, Refusal>
     requires { Sized layout }
-    ensures { result ≡ checked_of (take_row layout n rest.now) }
+    ensures { result ≡ answer_of (take_row layout n rest.now) }
 {
     let taken = ascii_walk::row_end(layout, n, rest);
     if taken < 1 {
         return check_in_order(layout, n, rest);
     }
-    Checked::Takes(taken)
+    Ok(taken)
 }
 
 // Whether this may follow the last row.
@@ -74,35 +65,27 @@ fn is_ending(s: &[u8]) -> bool
 }
 
 // What follows the last row, where row n would stand.
-pub fn check_end(n: u32, rest: &[u8]) -> Answer
+pub fn check_end(n: u32, rest: &[u8]) -> Result<(), Refusal>
     ensures { result ≡ answer_of (check_end n rest.now) }
 {
     if !is_ending(rest) {
-        return Answer::No(model::refused(11, n, 0));
+        return Err(model::refused(11, n, 0));
     }
-    Answer::Yes
+    Ok(())
 }
 
 // The file: row by row, then its end.
-pub fn check_text(layout: Layout, data: &[u8]) -> Answer
+pub fn check_text(layout: Layout, data: &[u8]) -> Result<(), Refusal>
     requires { Sized layout }
     ensures { result ≡ answer_of (check_text layout «data».now) }
 {
     let rows = layout.rows;
     let mut t = data;
-    let mut n: u32 = 1;
-    while n <= rows {
-        match take_row(layout, n, t) {
-            Checked::No(refusal) => {
-                return Answer::No(refusal);
-            }
-            Checked::Takes(taken) => {
-                t = &t[taken..];
-                n += 1;
-            }
-        }
+    for i in 0..rows {
+        let taken = take_row(layout, i + 1, t)?;
+        t = &t[taken..];
     }
-    check_end(n, t)
+    check_end(rows + 1, t)
 }
 
 // How many bytes the line that `rest` begins with takes, none where there is no line.
@@ -110,20 +93,19 @@ pub fn line_taken(rest: &[u8]) -> usize
     ensures { result ≡ line_taken (scan_row rest.now) }
 {
     match text::scan_line(rest, LONGEST) {
-        Scanned::Line { len, taken } => taken,
-        Scanned::Ends => 0,
-        Scanned::Bad => 0,
+        Ok(line) => line.taken,
+        Err(_) => 0,
     }
 }
 
 // The line that `rest` begins with.
+#[tactic(auto, unfolding(crate::specs::Files::first_line))]
 pub fn first_line<'a>(rest: &'a [u8]) -> &'a [u8]
     ensures { result.now ≡ first_line rest.now }
 {
     match text::scan_line(rest, LONGEST) {
-        Scanned::Line { len, taken } => &rest[..len],
-        Scanned::Ends => &rest[..0],
-        Scanned::Bad => &rest[..0],
+        Ok(line) => &rest[..line.len],
+        Err(_) => &rest[..0],
     }
 }
 
@@ -132,16 +114,15 @@ fn after_rows<'a>(data: &'a [u8], i: u32) -> &'a [u8]
     ensures { result.now ≡ after_rows i «data».now }
 {
     let mut t = data;
-    let mut k: u32 = 0;
-    while k < i {
+    for _ in 0..i {
         let m = line_taken(t);
         t = &t[m..];
-        k += 1;
     }
     t
 }
 
 // Row i of a text, counted from 0.
+#[tactic(auto, unfolding(crate::specs::Files::text_row))]
 pub fn row_at(layout: Layout, data: &[u8], i: u32) -> Row
     requires { Sized layout }
     ensures { result ≡ text_row layout i «data».now }

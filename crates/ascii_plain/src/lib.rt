@@ -52,10 +52,8 @@ fn samples_length(layout: Layout, zs: &[i32]) -> usize
 {
     let a = layout.analogs as usize;
     let mut n = 0;
-    let mut i = 0;
-    while i < a {
-        n += sample_length(layout, zs[i]);
-        i += 1;
+    for &z in &zs[..a] {
+        n += sample_length(layout, z);
     }
     n
 }
@@ -131,13 +129,10 @@ fn put_samples(layout: Layout, zs: &[i32], d: &mut [u8])
 {
     let a = layout.analogs as usize;
     let mut from = 0;
-    let mut i = 0;
-    while i < a {
-        let z = zs[i];
+    for &z in &zs[..a] {
         let to = from + sample_length(layout, z);
         put_sample(layout, z, &mut d[from..to]);
         from = to;
-        i += 1;
     }
 }
 
@@ -162,13 +157,9 @@ fn put_statuses(s: &[bool], count: usize, d: &mut [u8])
     requires { (count ≤ length s.now) × (length d.old ≡ 2 * count) }
     ensures { d.new ≡ statuses_text count s.now }
 {
-    let mut i = 0;
-    while i < count {
+    for i in 0..count {
         let from = i * STATUS;
-        let to = from + STATUS;
-        let b = s[i];
-        put_status(b, &mut d[from..to]);
-        i += 1;
+        put_status(s[i], &mut d[from..from + STATUS]);
     }
 }
 

@@ -15,8 +15,7 @@ use lib.IntN.{pos, negsuc}
 use Rattle.ground.specs.Quoted.{quoted}
 use Rattle.ground.specs.Said.{says}
 use Rattle.text.specs.Fields.{field_count, after_fields, field_at}
-use Rattle.numerals.specs.declared.Whole.{Whole}
-use Rattle.numerals.specs.declared.Whole.TheVariants as whole
+use Rattle.std.proofs.Common.{None, Option, Some, ℤ}
 use Rattle.numerals.specs.Counts.{length_in, is_digit, number_of, read_count}
 use Rattle.numerals.specs.Wholes.{sign_length, has_minus, with_sign, signed_number, read_whole}
 use Rattle.model.specs.declared.Layout.{Layout}
@@ -31,29 +30,29 @@ use Rattle.ascii_row.specs.Rows.{field_fine, check_fields, check_number, check_l
 abbrev text : Edition → Layout
 text e = record { analogs = 1; statuses = 0; rows = 1; kind = Ascii; edition = e }
 
-abbrev sample : List ℕ → Whole
+abbrev sample : List ℕ → Option ℤ
 sample f = read_sample (text Y2013) f
 
-abbrev sample-1999 : List ℕ → Whole
+abbrev sample-1999 : List ℕ → Option ℤ
 sample-1999 f = read_sample (text Y1999) f
 
-pub empty-missing : sample (quoted "") ≡ whole.Is missing
+pub empty-missing : sample (quoted "") ≡ Some missing
 unfolding read_sample is_missing_field marked
 empty-missing = refl
 
-pub space-bad : sample (quoted " ") ≡ whole.Form
+pub space-bad : sample (quoted " ") ≡ None
 unfolding read_sample is_missing_field marked read_whole length_in signed_number sign_length has_minus with_sign number_of is_digit
 space-bad = refl
 
-pub lowest-read : sample (quoted "-2147483647") ≡ whole.Is (negsuc 2147483646)
+pub lowest-read : sample (quoted "-2147483647") ≡ Some (negsuc 2147483646)
 unfolding read_sample is_missing_field marked holds read_whole length_in signed_number sign_length has_minus with_sign number_of is_digit
 lowest-read = refl
 
-pub below-bad : sample (quoted "-2147483648") ≡ whole.Form
+pub below-bad : sample (quoted "-2147483648") ≡ None
 unfolding read_sample is_missing_field marked holds read_whole length_in signed_number sign_length has_minus with_sign number_of is_digit
 below-bad = refl
 
-pub zeros-bad : sample (quoted "-002147483648") ≡ whole.Form
+pub zeros-bad : sample (quoted "-002147483648") ≡ None
 unfolding read_sample is_missing_field marked holds read_whole length_in signed_number sign_length has_minus with_sign number_of is_digit
 zeros-bad = refl
 
@@ -62,17 +61,17 @@ unfolding check_line check_number check_fields field_fine field_count after_fiel
 last_empty = refl
 
 pub mark-missing :
-    (sample-1999 (quoted "99999") ≡ whole.Is missing) × (sample-1999 (quoted "+99999") ≡ whole.Is missing)
-    × (sample-1999 (quoted "  99999") ≡ whole.Is missing) × (sample-1999 (quoted "0000000099999") ≡ whole.Is missing)
+    (sample-1999 (quoted "99999") ≡ Some missing) × (sample-1999 (quoted "+99999") ≡ Some missing)
+    × (sample-1999 (quoted "  99999") ≡ Some missing) × (sample-1999 (quoted "0000000099999") ≡ Some missing)
 unfolding read_sample is_missing_field marked is_mark read_whole length_in signed_number sign_length has_minus with_sign number_of is_digit
 mark-missing = (refl, refl, refl, refl)
 
 pub beside-mark :
-    (sample-1999 (quoted "99998") ≡ whole.Is (pos 99998)) × (sample-1999 (quoted "-99999") ≡ whole.Is (negsuc 99998))
-    × (sample-1999 (quoted "100000") ≡ whole.Form) × (sample-1999 (quoted "-100000") ≡ whole.Form) × (sample-1999 (quoted "") ≡ whole.Form)
+    (sample-1999 (quoted "99998") ≡ Some (pos 99998)) × (sample-1999 (quoted "-99999") ≡ Some (negsuc 99998))
+    × (sample-1999 (quoted "100000") ≡ None) × (sample-1999 (quoted "-100000") ≡ None) × (sample-1999 (quoted "") ≡ None)
 unfolding read_sample is_missing_field marked is_mark holds read_whole length_in signed_number sign_length has_minus with_sign number_of is_digit
 beside-mark = (refl, refl, refl, refl, refl)
 
-pub mark-2013 : sample (quoted "99999") ≡ whole.Is (pos 99999)
+pub mark-2013 : sample (quoted "99999") ≡ Some (pos 99999)
 unfolding read_sample is_missing_field marked holds read_whole length_in signed_number sign_length has_minus with_sign number_of is_digit
 mark-2013 = refl

@@ -22,8 +22,7 @@ use Rattle.ground.proofs.Filled.{get_or-padded, padded-again}
 use Rattle.ground.proofs.SaidLaws.{must-told, must-holds, then-told}
 use Rattle.text.specs.Fields.{field_count, field_length, first_field, after_fields, field_at}
 use Rattle.text.proofs.FieldLaws.{field-first, field_past, field-later}
-use Rattle.numerals.specs.declared.Count.{Count}
-use Rattle.numerals.specs.declared.Count.TheVariants.{Is, Form}
+use Rattle.std.proofs.Common.{None, Option, Some}
 use Rattle.numerals.specs.Counts.{read_count}
 use Rattle.model.specs.declared.Layout.{Layout}
 use Rattle.model.specs.Refusals.{refused}
@@ -57,7 +56,7 @@ fields_told l n t k (suc m) e (suc j) h =
 -- a line that row n's check finds fine
 pub record FineLine (l : Layout) (n : ℕ) (line : List ℕ) : Type 0 where
   pub count : field_count line ≡ fields_of l
-  pub number : read_count 1 10 (field_at 1 line) ≡ Is n
+  pub number : read_count 1 10 (field_at 1 line) ≡ Some n
   pub time : is_count (read_timestamp (field_at 2 line)) ≡ true
   pub samples : (i : ℕ) → i < l.analogs → is_whole (read_sample l (field_at (3 + i) line)) ≡ true
   pub statuses : (i : ℕ) → i < l.statuses → is_status (field_at (3 + l.analogs + i) line) ≡ true
@@ -76,9 +75,9 @@ module _ (l : Layout) (f : List ℕ) where
   unfolding field_fine
   of-status i = rw (ne_eqb (3 + l.analogs + i) 2 (λ e. omega arith), lt-leb (3 + l.analogs + i) (2 + l.analogs) (omega arith))
 
-number-told : (n : ℕ) (k : Count) → (field n 1 k >>= (λ number. must (eqb number n) (refused 12 n 1))) ≡ says tt → k ≡ Is n
-number-told n (Is v) e = ap Is (eqb-true v n (must-holds (eqb v n) (refused 12 n 1) e))
-number-told n Form e = cc
+number-told : (n : ℕ) (k : Option ℕ) → (field n 1 k >>= (λ number. must (eqb number n) (refused 12 n 1))) ≡ says tt → k ≡ Some n
+number-told n (Some v) e = ap Some (eqb-true v n (must-holds (eqb v n) (refused 12 n 1) e))
+number-told n None e = cc
 
 pub line-told : (l : Layout) (n : ℕ) (line : List ℕ) → check_line l n line ≡ says tt → FineLine l n line
 unfolding check_line check_number

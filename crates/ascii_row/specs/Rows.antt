@@ -3,8 +3,7 @@ use Rattle.std.specs.Prelude.{Bool, false, List, ℕ, zero, suc, ◌+◌, eqb, l
 use Rattle.ground.specs.Said.{Said, says, refuses, ◌>>=◌, ◌>>◌, must}
 use Rattle.ground.specs.Tables.{padded}
 use Rattle.text.specs.Fields.{field_count, field_length, first_field, after_fields, field_at}
-use Rattle.numerals.specs.declared.Count.{Count}
-use Rattle.numerals.specs.declared.Count.TheVariants.{Is, Form}
+use Rattle.std.specs.Prelude.{None, Option, Some}
 use Rattle.numerals.specs.Counts.{read_count}
 use Rattle.model.specs.declared.Layout.{Layout}
 use Rattle.model.specs.declared.Row.{Row}
@@ -17,9 +16,9 @@ abbrev pub fields_of : Layout → ℕ
 fields_of l = 2 + l.analogs + l.statuses
 
 -- the count of field k of row n, or 14 there
-abbrev pub field : ℕ → ℕ → Count → Said Refusal ℕ
-field n k (Is v) = says v
-field n k Form = refuses (refused 14 n k)
+abbrev pub field : ℕ → ℕ → Option ℕ → Said Refusal ℕ
+field n k (Some v) = says v
+field n k None = refuses (refused 14 n k)
 
 -- field k, from the second on, of a row: the timestamp, a sample, or a status
 unfoldable pub field_fine : Layout → ℕ → List ℕ → Bool

@@ -3,17 +3,15 @@
 #![tactic(auto)]
 
 ghost use Rattle.std.specs.Prelude.{◌≡◌, true, false, List, [], ℕ, ◌+◌, ◌≤◌, ◌<◌, pos, length};
+ghost use Rattle.ground.specs.Said.{answer_of};
 ghost use Rattle.ground.specs.Tables.{tab, padded};
 ghost use Rattle.text.specs.Fields.{field_at};
-ghost use Rattle.numerals.specs.declared.Whole.TheVariants as whole;
 ghost use Rattle.numerals.specs.Wholes.{read_whole};
 ghost use Rattle.model.specs.Layouts.{Sized};
-ghost use Rattle.model.specs.Refusals.{answer_of};
 ghost use Rattle.ascii_row.specs.Fields.{read_timestamp, read_sample, is_status, is_count, is_whole, time_in, sample_in, status_in};
 ghost use Rattle.ascii_row.specs.Rows.{field_fine, check_fields, check_number, check_line, field_sample, field_status, row_of};
 
-use model::{Answer, Layout, Row};
-use numerals::{Count, Whole};
+use model::{Layout, Refusal, Row};
 
 // The highest timestamp, as counts are.
 pub const LATEST: u64 = Row::LATEST as u64;
@@ -22,77 +20,67 @@ pub const LATEST: u64 = Row::LATEST as u64;
 const MISSING: i64 = Row::MISSING as i64;
 
 // A timestamp.
-fn read_timestamp(field: &[u8]) -> Count
+#[tactic(auto, unfolding(crate::specs::Fields::read_timestamp))]
+fn read_timestamp(field: &[u8]) -> Option<u64>
     ensures { result ≡ read_timestamp field.now }
 {
-    match numerals::read_count(field, 1, 13) {
-        Count::Is(v) => {
-            if LATEST < v {
-                return Count::Form;
-            }
-            Count::Is(v)
-        }
-        Count::Form => Count::Form,
+    let v = numerals::read_count(field, 1, 13)?;
+    if LATEST < v {
+        return None;
     }
+    Some(v)
 }
 
 // What an empty field says: a missing sample, but in no marked text.
-fn empty_sample(layout: Layout) -> Whole
+#[tactic(auto, unfolding(crate::specs::Fields::read_sample, crate::specs::Fields::is_missing_field, numerals::specs::Wholes::read_whole, numerals::specs::Counts::length_in))]
+fn empty_sample(layout: Layout) -> Option<i64>
     ensures { result ≡ read_sample layout [] }
 {
     if layout.is_marked() {
-        return Whole::Form;
+        return None;
     }
-    Whole::Is(MISSING)
+    Some(MISSING)
 }
 
 // What a field says, by its number: a sample of the layout; or a missing one, where it is the mark of a marked text.
-fn sample_said(layout: Layout, z: i64) -> Whole
-    ensures { (f : List ℕ) → read_whole f ≡ whole.Is z → result ≡ read_sample layout f }
+fn sample_said(layout: Layout, z: i64) -> Option<i64>
+    ensures { (f : List ℕ) → read_whole f ≡ Some z → result ≡ read_sample layout f }
 {
     if layout.holds(z) {
-        return Whole::Is(z);
+        return Some(z);
     }
     if !layout.is_marked() {
-        return Whole::Form;
+        return None;
     }
     if model::is_mark(z) {
-        return Whole::Is(MISSING);
+        return Some(MISSING);
     }
-    Whole::Form
+    None
 }
 
 // A sample, whose number is read once; a missing one is an empty field, or in a marked text the mark.
-fn read_sample(layout: Layout, field: &[u8]) -> Whole
+fn read_sample(layout: Layout, field: &[u8]) -> Option<i64>
     ensures { result ≡ read_sample layout field.now }
 {
     if field.len() == 0 {
         return empty_sample(layout);
     }
-    match numerals::read_whole(field) {
-        Whole::Is(z) => sample_said(layout, z),
-        Whole::Form => Whole::Form,
-    }
+    let z = numerals::read_whole(field)?;
+    sample_said(layout, z)
 }
 
 // Whether a field is a timestamp.
 fn is_time(field: &[u8]) -> bool
     ensures { result ≡ is_count (read_timestamp field.now) }
 {
-    match read_timestamp(field) {
-        Count::Is(_) => true,
-        Count::Form => false,
-    }
+    read_timestamp(field).is_some()
 }
 
 // Whether a field is a sample.
 fn is_sample(layout: Layout, field: &[u8]) -> bool
     ensures { result ≡ is_whole (read_sample layout field.now) }
 {
-    match read_sample(layout, field) {
-        Whole::Is(_) => true,
-        Whole::Form => false,
-    }
+    read_sample(layout, field).is_some()
 }
 
 // Whether a field is a status.
@@ -110,26 +98,29 @@ fn is_status(field: &[u8]) -> bool
 }
 
 // The timestamp of a field.
+#[tactic(auto, unfolding(crate::specs::Fields::time_in))]
 fn time_in(field: &[u8]) -> u32
     ensures { result ≡ time_in field.now }
 {
     match read_timestamp(field) {
-        Count::Is(v) => v as u32,
-        Count::Form => 0,
+        Some(v) => v as u32,
+        None => 0,
     }
 }
 
 // The sample of a field.
+#[tactic(auto, unfolding(crate::specs::Fields::sample_in))]
 fn sample_in(layout: Layout, field: &[u8]) -> i32
     ensures { result ≡ sample_in layout field.now }
 {
     match read_sample(layout, field) {
-        Whole::Is(z) => words::narrowed(z),
-        Whole::Form => 0,
+        Some(z) => words::narrowed(z),
+        None => 0,
     }
 }
 
 // The status of a field.
+#[tactic(auto, unfolding(crate::specs::Fields::status_in))]
 fn status_in(field: &[u8]) -> bool
     ensures { result ≡ status_in field.now }
 {
@@ -140,6 +131,7 @@ fn status_in(field: &[u8]) -> bool
 }
 
 // Whether field k, from the second on, of a row is what stands there.
+#[tactic(auto, unfolding(crate::specs::Rows::field_fine))]
 fn field_fine(layout: Layout, k: usize, field: &[u8]) -> bool
     requires { Sized layout }
     ensures { result ≡ field_fine layout k field.now }
@@ -155,54 +147,47 @@ fn field_fine(layout: Layout, k: usize, field: &[u8]) -> bool
 }
 
 // The count fields of row n from the second on, with which `fields` begins: each is found where the one before it ends.
-fn check_fields(layout: Layout, n: u32, fields: &[u8], count: usize) -> Answer
+fn check_fields(layout: Layout, n: u32, fields: &[u8], count: usize) -> Result<(), Refusal>
     requires { (Sized layout) × (count ≤ 353) }
     ensures { result ≡ answer_of (check_fields layout n fields.now 2 count) }
 {
     let mut t = fields;
-    let mut k: usize = 2;
-    let end = 2 + count;
-    while k < end {
+    for k in 2..2 + count {
         let m = text::field_length(t);
         if !field_fine(layout, k, &t[..m]) {
-            return Answer::No(model::refused(14, n, k as u32));
+            return Err(model::refused(14, n, k as u32));
         }
         let taken = text::with_comma(t, m);
         t = &t[taken..];
-        k += 1;
     }
-    Answer::Yes
+    Ok(())
 }
 
 // The number of row n's line is n.
-fn check_number(n: u32, line: &[u8]) -> Answer
+#[tactic(auto, unfolding(crate::specs::Rows::check_number))]
+fn check_number(n: u32, line: &[u8]) -> Result<(), Refusal>
     ensures { result ≡ answer_of (check_number n line.now) }
 {
-    match numerals::read_count(text::field_at(line, 1), 1, 10) {
-        Count::Is(v) => {
-            if v != n as u64 {
-                return Answer::No(model::refused(12, n, 1));
-            }
-            Answer::Yes
-        }
-        Count::Form => Answer::No(model::refused(14, n, 1)),
+    let v = numerals::read_count(text::field_at(line, 1), 1, 10).ok_or(model::refused(14, n, 1))?;
+    if v != n as u64 {
+        return Err(model::refused(12, n, 1));
     }
+    Ok(())
 }
 
 // Whether the line of row n is fine, or the first refusal.
-pub fn check_line(layout: Layout, n: u32, line: &[u8]) -> Answer
+#[tactic(auto, unfolding(crate::specs::Rows::check_line))]
+pub fn check_line(layout: Layout, n: u32, line: &[u8]) -> Result<(), Refusal>
     requires { Sized layout }
     ensures { result ≡ answer_of (check_line layout n line.now) }
 {
     let a = layout.analogs as usize;
     let d = layout.statuses as usize;
     if text::field_count(line) != 2 + a + d {
-        return Answer::No(model::refused(14, n, 0));
+        return Err(model::refused(14, n, 0));
     }
-    match check_number(n, line) {
-        Answer::Yes => check_fields(layout, n, text::after_fields(line, 1), 1 + a + d),
-        Answer::No(refusal) => Answer::No(refusal),
-    }
+    check_number(n, line)?;
+    check_fields(layout, n, text::after_fields(line, 1), 1 + a + d)
 }
 
 // The samples of the fields fill the slice.
@@ -210,13 +195,11 @@ fn read_samples(layout: Layout, fields: &[u8], d: &mut [i32])
     ensures { d.new ≡ tab (field_sample layout fields.now) (length d.old) }
 {
     let mut t = fields;
-    let mut i = 0;
-    while i < d.len() {
+    for sample in d.iter_mut() {
         let m = text::field_length(t);
-        d[i] = sample_in(layout, &t[..m]);
+        *sample = sample_in(layout, &t[..m]);
         let taken = text::with_comma(t, m);
         t = &t[taken..];
-        i += 1;
     }
 }
 
@@ -225,13 +208,11 @@ fn read_statuses(fields: &[u8], d: &mut [bool])
     ensures { d.new ≡ tab (field_status fields.now) (length d.old) }
 {
     let mut t = fields;
-    let mut i = 0;
-    while i < d.len() {
+    for status in d.iter_mut() {
         let m = text::field_length(t);
-        d[i] = status_in(&t[..m]);
+        *status = status_in(&t[..m]);
         let taken = text::with_comma(t, m);
         t = &t[taken..];
-        i += 1;
     }
 }
 
@@ -253,6 +234,7 @@ pub fn line_time(line: &[u8]) -> u32
 }
 
 // The samples of a line, and zeros.
+#[tactic(auto, unfolding(crate::specs::Rows::row_of))]
 pub fn line_samples(layout: Layout, line: &[u8]) -> [i32; 96]
     requires { Sized layout }
     ensures { result ≡ (row_of layout line.now).samples }
@@ -265,6 +247,7 @@ pub fn line_samples(layout: Layout, line: &[u8]) -> [i32; 96]
 }
 
 // The row that a line says.
+#[tactic(auto, unfolding(crate::specs::Rows::row_of))]
 pub fn row_of(layout: Layout, line: &[u8]) -> Row
     requires { Sized layout }
     ensures { result ≡ row_of layout line.now }

@@ -34,8 +34,7 @@ use Rattle.text.specs.Lines.{line_bytes}
 use Rattle.text.specs.Fields.{commas, field_count, field_length, first_field, after_fields}
 use Rattle.text.proofs.FieldLaws.{commas-append, length_before, field-first}
 use Rattle.text.proofs.LineLaws.{line-scanned}
-use Rattle.numerals.specs.declared.Count.TheVariants as count
-use Rattle.numerals.specs.declared.Whole.TheVariants as whole
+use Rattle.std.proofs.Common.{None, Some}
 use Rattle.numerals.specs.Counts.{length_in, is_digit, leading_spaces, digits_from, number_of, read_count}
 use Rattle.numerals.specs.Wholes.{sign_length, has_minus, signed_number, read_whole}
 use Rattle.numerals.specs.Inner.{CountThere, WholeThere}
@@ -63,17 +62,17 @@ more b l h k e c = record {
 }
 
 -- a wrong form is no number
-no-count : (l : List ℕ) (v : ℕ) → count.Form ≡ count.Is v → Clean l
+no-count : (l : List ℕ) (v : ℕ) → None ≡ Some v → Clean l
 no-count l v e = record { plain = cc; bytes = cc }
 
-digits-clean : (l : List ℕ) (v w : ℕ) → digits_from v l ≡ count.Is w → Clean l
+digits-clean : (l : List ℕ) (v w : ℕ) → digits_from v l ≡ Some w → Clean l
 digits-clean [] v w e = none
 digits-clean (b ∷ l) v w e =
     on_test (is_digit b)
     (λ t. let d = digit-bounds b t in more b l (omega arith) (omega arith) (λ q. omega arith) (digits-clean l (10 * v + (b - 48)) w (rw t at e)))
     (λ t. no-count (b ∷ l) w (rw t at e))
 
-number-clean : (l : List ℕ) (v : ℕ) → number_of l ≡ count.Is v → Clean l
+number-clean : (l : List ℕ) (v : ℕ) → number_of l ≡ Some v → Clean l
 unfolding number_of
 number-clean l v e =
     on_test (eqb (length l) 0)
@@ -87,7 +86,7 @@ spaces-clean (b ∷ l) c =
     (λ t. let q = eqb-true b 32 t in more b l (omega arith) (omega arith) (λ e. omega arith) (spaces-clean l (rw t at c)))
     (λ t. rw t at c)
 
-pub count-clean : (least most : ℕ) (l : List ℕ) (v : ℕ) → read_count least most l ≡ count.Is v → Clean l
+pub count-clean : (least most : ℕ) (l : List ℕ) (v : ℕ) → read_count least most l ≡ Some v → Clean l
 unfolding read_count
 count-clean least most l v e =
     on_test (length_in least most l)
@@ -101,7 +100,7 @@ sign-clean (b ∷ l) c =
     on_test (eqb b 45) (λ t. let q = eqb-true b 45 t in more b l (omega arith) (omega arith) (λ e. omega arith) (rw t at c)) (λ t.
     on_test (eqb b 43) (λ u. let q = eqb-true b 43 u in more b l (omega arith) (omega arith) (λ e. omega arith) (rw (t, u) at c)) (λ u. rw (t, u) at c))
 
-pub whole-clean : (l : List ℕ) (z : ℤ) → read_whole l ≡ whole.Is z → Clean l
+pub whole-clean : (l : List ℕ) (z : ℤ) → read_whole l ≡ Some z → Clean l
 unfolding read_whole signed_number
 whole-clean l z e =
     let m = drop (leading_spaces l) l in
@@ -219,7 +218,7 @@ tail-passed l n s e k i (suc m) j q (x, p, d) h w t =
     let y : m + suc q ≡ suc m + q = omega arith in
     rw y at (tail-passed l n s e k i m x (suc q) p (omega (arith, d.past)) w (rw r (tail-next l n (k + m) q (part (x + 1) j s) (part j e s) d.fine (rw z at t))))
 
-line-there : (l : Layout) (n : ℕ) (f y : List ℕ) → read_count 1 10 f ≡ count.Is n → Tail l n 1 (1 + l.analogs + l.statuses) y
+line-there : (l : Layout) (n : ℕ) (f y : List ℕ) → read_count 1 10 f ≡ Some n → Tail l n 1 (1 + l.analogs + l.statuses) y
     → check_line l n (f ++ y) ≡ says tt
 unfolding check_line check_number field_count after_fields
 line-there l n f y e t =

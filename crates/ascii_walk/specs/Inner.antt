@@ -3,7 +3,7 @@
 use Rattle.std.specs.Prelude.{◌≡◌, Bool, true, List, ℕ, zero, suc, ◌+◌, ◌-◌, ◌<◌, ◌≤◌, length, get_or, take}
 use Rattle.ground.specs.Tables.{part}
 use Rattle.ground.specs.Said.{says}
-use Rattle.text.specs.declared.Scanned.TheVariants.{Line}
+use Rattle.std.specs.Prelude.{Ok}
 use Rattle.text.specs.Lines.{scan_line}
 use Rattle.model.specs.declared.Layout.{Layout}
 use Rattle.ascii_row.specs.Fields.{read_timestamp, read_sample, is_status, is_count, is_whole}
@@ -54,5 +54,5 @@ Passed l s k i (suc m) j = (x : ℕ) × Passed l s k i m x × Next l s (k + m + 
 
 -- row n takes so many bytes of s, its CR LF included, and is fine
 pub record RowThere (l : Layout) (n : ℕ) (s : List ℕ) (taken : ℕ) : Type 0 where
-  pub scanned : scan_line 1880 s ≡ Line (taken - 2) taken
+  pub scanned : scan_line 1880 s ≡ Ok (record { len = (taken - 2); taken = taken })
   pub fine : check_line l n (take (taken - 2) s) ≡ says tt

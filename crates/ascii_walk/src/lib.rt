@@ -92,21 +92,19 @@ fn samples_end(layout: Layout, s: &[u8], at: usize) -> usize
     requires { (Sized layout) × (at < length s.now) }
     ensures { 1 ≤ result → (result < length s.now) × Passed layout s.now 2 at layout.analogs result }
 {
-    let a = layout.analogs as usize;
     let mut i = at;
-    let mut k: usize = 0;
-    while k < a {
+    for _ in 0..layout.analogs {
         let e = sample_end(layout, s, i);
         if e < 1 {
             return 0;
         }
         i = e;
-        k += 1;
     }
     i
 }
 
 // Whether two bytes are a comma and a status.
+#[tactic(auto, unfolding(ascii_row::specs::Fields::is_status))]
 fn is_pair(c: u8, b: u8) -> bool
     ensures { result ≡ (eqb c 44 && is_status (b ∷ [])) }
 {
@@ -162,12 +160,10 @@ fn statuses_end(s: &[u8], at: usize, d: usize) -> usize
     if s.len() - at <= 2 * d {
         return 0;
     }
-    let mut k = pass_fours(s, at, d);
-    while k < d {
+    for k in pass_fours(s, at, d)..d {
         if !status_there(s, at + 2 * k) {
             return 0;
         }
-        k += 1;
     }
     at + 2 * d
 }

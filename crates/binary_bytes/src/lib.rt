@@ -30,14 +30,12 @@ fn put_samples(layout: Layout, zs: &[i32], d: &mut [u8])
     let a = layout.analogs as usize;
     let width = kind.width();
     let half = kind.half();
-    let mut i = 0;
-    while i < a {
+    for i in 0..a {
         let from = i * width;
         let to = from + width;
         let z = zs[i];
         let n = model::word_of_sample(half, z);
         words::put_word(&mut d[from..to], n);
-        i += 1;
     }
 }
 
@@ -47,11 +45,9 @@ fn pack_word(s: &[bool]) -> u32
     ensures { result ≡ packed s.now }
 {
     let mut word: u32 = 0;
-    let mut i = s.len();
-    while 0 < i {
-        i -= 1;
+    for on in s.iter().rev() {
         word = word << 1;
-        if s[i] {
+        if *on {
             word = word | 1;
         }
     }
@@ -64,15 +60,13 @@ fn put_words(s: &[bool], count: usize, d: &mut [u8])
     ensures { d.new ≡ words_bytes count s.now }
 {
     let words = d.len() / WORD;
-    let mut j = 0;
-    while j < words {
+    for j in 0..words {
         let from = j * STATUSES;
         let to = binary_row::lesser(from + STATUSES, count);
         let word = pack_word(&s[from..to]);
         let at = j * WORD;
         let end = at + WORD;
         words::put_word(&mut d[at..end], word);
-        j += 1;
     }
 }
 
@@ -92,6 +86,7 @@ fn put_body(layout: Layout, zs: &[i32], s: &[bool], d: &mut [u8])
 }
 
 // The bytes of row n fill the slice.
+#[tactic(auto, unfolding(crate::specs::Rows::binary_of))]
 pub fn put_row(layout: Layout, n: u32, row: Row, d: &mut [u8])
     requires { (Sized layout) × (length d.old ≡ row_size layout) × (misfit layout row.samples ≡ layout.analogs) }
     ensures { d.new ≡ binary_of layout n row }

@@ -3,59 +3,52 @@
 #![tactic(auto)]
 
 ghost use Rattle.std.specs.Prelude.{◌≡◌, ◌*◌, ◌<◌, length};
+ghost use Rattle.ground.specs.Said.{answer_of};
 ghost use Rattle.model.specs.Layouts.{Sized};
-ghost use Rattle.model.specs.Refusals.{answer_of};
 ghost use Rattle.binary_row.specs.Rows.{row_size};
 ghost use Rattle.binary_file.specs.Files.{check_rows, check_length, check_binary, binary_row};
 
-use model::{Answer, Layout, Row};
+use model::{Layout, Refusal, Row};
 
 // The rows of a file, each at its place.
-fn check_rows(layout: Layout, data: &[u8]) -> Answer
+fn check_rows(layout: Layout, data: &[u8]) -> Result<(), Refusal>
     requires { (Sized layout) × (length «data».now ≡ layout.rows * row_size layout) }
     ensures { result ≡ answer_of (check_rows layout «data».now 0 layout.rows) }
 {
     let size = binary_row::row_size(layout);
     let rows = layout.rows;
-    let mut i: u32 = 0;
-    while i < rows {
+    for i in 0..rows {
         let from = i as usize * size;
         let to = from + size;
-        i += 1;
-        match binary_row::check_row(layout, i, &data[from..to]) {
-            Answer::No(refusal) => {
-                return Answer::No(refusal);
-            }
-            Answer::Yes => {}
-        }
+        binary_row::check_row(layout, i + 1, &data[from..to])?;
     }
-    Answer::Yes
+    Ok(())
 }
 
 // The length of a file of the binary kinds.
-pub fn check_length(layout: Layout, data: &[u8]) -> Answer
+pub fn check_length(layout: Layout, data: &[u8]) -> Result<(), Refusal>
     requires { Sized layout }
     ensures { result ≡ answer_of (check_length layout «data».now) }
 {
     let rows = layout.rows as usize;
     if data.len() != rows * binary_row::row_size(layout) {
-        return Answer::No(model::refused(11, 0, 0));
+        return Err(model::refused(11, 0, 0));
     }
-    Answer::Yes
+    Ok(())
 }
 
 // A file of the binary kinds: its length, then its rows.
-pub fn check_binary(layout: Layout, data: &[u8]) -> Answer
+#[tactic(auto, unfolding(crate::specs::Files::check_binary))]
+pub fn check_binary(layout: Layout, data: &[u8]) -> Result<(), Refusal>
     requires { Sized layout }
     ensures { result ≡ answer_of (check_binary layout «data».now) }
 {
-    match check_length(layout, data) {
-        Answer::Yes => check_rows(layout, data),
-        Answer::No(refusal) => Answer::No(refusal),
-    }
+    check_length(layout, data)?;
+    check_rows(layout, data)
 }
 
 // Row i of a file that was accepted, counted from 0.
+#[tactic(auto, unfolding(crate::specs::Files::binary_row))]
 pub fn row_at(layout: Layout, data: &[u8], i: u32) -> Row
     requires { (Sized layout) × (length «data».now ≡ layout.rows * row_size layout) × (i < layout.rows) }
     ensures { result ≡ binary_row layout i «data».now }

@@ -3,13 +3,13 @@
 #![tactic(auto)]
 
 ghost use Rattle.std.specs.Prelude.{◌≡◌, false, ◌*◌, ◌≤◌, min, pos, length};
+ghost use Rattle.ground.specs.Said.{answer_of};
 ghost use Rattle.ground.specs.Tables.{tab, padded};
 ghost use Rattle.model.specs.Kinds.{width_of, half_of};
 ghost use Rattle.model.specs.Layouts.{Sized};
-ghost use Rattle.model.specs.Refusals.{answer_of};
 ghost use Rattle.binary_row.specs.Rows.{words_of, samples_end, row_size, bytes_sample, bit_of, word_status, padding_free, row_time, check_row, row_of};
 
-use model::{Answer, Kind, Layout, Row};
+use model::{Kind, Layout, Refusal, Row};
 
 // Bytes of a row's number, and of its timestamp.
 pub const NUMBER: usize = 4;
@@ -43,6 +43,7 @@ pub fn samples_end(layout: Layout) -> usize
 }
 
 // Bytes of a row.
+#[tactic(auto, unfolding(crate::specs::Rows::row_size))]
 pub fn row_size(layout: Layout) -> usize
     requires { Sized layout }
     ensures { result ≡ row_size layout }
@@ -68,7 +69,8 @@ fn padding_free(d: usize, b: &[u8]) -> bool
 }
 
 // Whether the bytes of row n are fine, or the first refusal: its number is field 1, its padding no field's.
-pub fn check_row(layout: Layout, n: u32, bytes: &[u8]) -> Answer
+#[tactic(auto, unfolding(crate::specs::Rows::check_row))]
+pub fn check_row(layout: Layout, n: u32, bytes: &[u8]) -> Result<(), Refusal>
     requires { (Sized layout) × (length bytes.now ≡ row_size layout) }
     ensures { result ≡ answer_of (check_row layout n bytes.now) }
 {
@@ -76,12 +78,12 @@ pub fn check_row(layout: Layout, n: u32, bytes: &[u8]) -> Answer
     let mid = samples_end(layout);
     let end = bytes.len();
     if words::word_of(&bytes[0..NUMBER]) != n {
-        return Answer::No(model::refused(12, n, 1));
+        return Err(model::refused(12, n, 1));
     }
     if !padding_free(d, &bytes[mid..end]) {
-        return Answer::No(model::refused(13, n, 0));
+        return Err(model::refused(13, n, 0));
     }
-    Answer::Yes
+    Ok(())
 }
 
 // The a samples of the bytes, and zeros.
@@ -92,13 +94,11 @@ fn samples_of(kind: Kind, a: usize, b: &[u8]) -> [i32; 96]
     let width = kind.width();
     let half = kind.half();
     let mut out = [0i32; 96];
-    let mut i = 0;
-    while i < a {
+    for i in 0..a {
         let from = i * width;
         let to = from + width;
         let n = words::word_of(&b[from..to]);
         out[i] = model::sample_of_word(half, n);
-        i += 1;
     }
     out
 }
@@ -108,10 +108,8 @@ fn unpack_word(word: u32, d: &mut [bool])
     requires { length d.old ≤ 16 }
     ensures { d.new ≡ tab (bit_of word) (length d.old) }
 {
-    let mut i = 0;
-    while i < d.len() {
-        d[i] = (word >> i) & 1 == 1;
-        i += 1;
+    for (i, on) in d.iter_mut().enumerate() {
+        *on = (word >> i) & 1 == 1;
     }
 }
 
@@ -122,15 +120,13 @@ fn unpack_words(b: &[u8], d: &mut [bool])
 {
     let n = d.len();
     let words = b.len() / WORD;
-    let mut j = 0;
-    while j < words {
+    for j in 0..words {
         let at = j * WORD;
         let end = at + WORD;
         let word = words::word_of(&b[at..end]);
         let from = j * STATUSES;
         let to = lesser(from + STATUSES, n);
         unpack_word(word, &mut d[from..to]);
-        j += 1;
     }
 }
 
@@ -153,6 +149,7 @@ pub fn row_time(bytes: &[u8]) -> u32
 }
 
 // The samples of a row, and zeros.
+#[tactic(auto, unfolding(crate::specs::Rows::row_of))]
 pub fn row_samples(layout: Layout, bytes: &[u8]) -> [i32; 96]
     requires { (Sized layout) × (length bytes.now ≡ row_size layout) }
     ensures { result ≡ (row_of layout bytes.now).samples }
@@ -164,6 +161,7 @@ pub fn row_samples(layout: Layout, bytes: &[u8]) -> [i32; 96]
 }
 
 // The row that the bytes are.
+#[tactic(auto, unfolding(crate::specs::Rows::row_of))]
 pub fn row_of(layout: Layout, bytes: &[u8]) -> Row
     requires { (Sized layout) × (length bytes.now ≡ row_size layout) }
     ensures { result ≡ row_of layout bytes.now }

@@ -8,20 +8,22 @@ ghost use Rattle.answers.specs.Answers.{told, told_written};
 ghost use Rattle.calls_change.specs.Calls.{length_call, change_call};
 ghost use Rattle.calls_change.specs.Inner.{needed_in, change_in};
 
-use answers::{LayoutNo, zl_answer};
-use model::{Kind, KindNo, Layout};
+use answers::zl_answer;
+use model::{Kind, Layout};
 
 // The bytes that a change to the kind of a number needs, in a layout.
+#[tactic(auto, unfolding(crate::specs::Inner::needed_in))]
 fn needed_in(layout: Layout, data: &[u8], new_kind: u32) -> zl_answer
     ensures { result ≡ told (needed_in layout «data».now new_kind) }
 {
-    match Kind::of(new_kind) {
-        KindNo::Is(k) => answers::counted(change_length::bytes_needed(layout, data, k)),
-        KindNo::None => answers::no(model::refused(10, 0, 0)),
-    }
+    let Some(k) = Kind::of(new_kind) else {
+        return answers::no(model::refused(10, 0, 0));
+    };
+    answers::counted(change_length::bytes_needed(layout, data, k))
 }
 
 // How many bytes a change of kind needs, or the first refusal; never no room.
+#[tactic(auto, unfolding(crate::specs::Calls::length_call, crate::specs::Inner::needed_in))]
 pub fn length(
     a: u32,
     d: u32,
@@ -33,24 +35,26 @@ pub fn length(
 ) -> zl_answer
     ensures { result ≡ told (length_call a d rows kind edition «data».now new_kind) }
 {
-    match answers::layout_of(a, d, rows, kind, edition) {
-        LayoutNo::Is(layout) => needed_in(layout, data, new_kind),
-        LayoutNo::None => answers::no(model::refused(10, 0, 0)),
-    }
+    let Some(layout) = answers::layout_of(a, d, rows, kind, edition) else {
+        return answers::no(model::refused(10, 0, 0));
+    };
+    needed_in(layout, data, new_kind)
 }
 
 // The file in the kind of a number, in a layout, written at the front of `out`, or nothing is.
+#[tactic(auto, unfolding(crate::specs::Inner::change_in))]
 fn change_in(layout: Layout, data: &[u8], new_kind: u32, out: &mut [u8]) -> zl_answer
     ensures value { result ≡ told_written (change_in layout «data».now new_kind (length out.old)) }
     ensures out_after { out.new ≡ over (change_in layout «data».now new_kind (length out.old)) out.old }
 {
-    match Kind::of(new_kind) {
-        KindNo::Is(k) => answers::counted(change::change(layout, data, k, out)),
-        KindNo::None => answers::no(model::refused(10, 0, 0)),
-    }
+    let Some(k) = Kind::of(new_kind) else {
+        return answers::no(model::refused(10, 0, 0));
+    };
+    answers::counted(change::change(layout, data, k, out))
 }
 
 // The file in another kind, written at the front of `out`, or nothing is.
+#[tactic(auto, unfolding(crate::specs::Calls::change_call, crate::specs::Inner::change_in))]
 pub fn change(
     a: u32,
     d: u32,
@@ -64,8 +68,8 @@ pub fn change(
     ensures value { result ≡ told_written (change_call a d rows kind edition «data».now new_kind (length out.old)) }
     ensures out_after { out.new ≡ over (change_call a d rows kind edition «data».now new_kind (length out.old)) out.old }
 {
-    match answers::layout_of(a, d, rows, kind, edition) {
-        LayoutNo::Is(layout) => change_in(layout, data, new_kind, out),
-        LayoutNo::None => answers::no(model::refused(10, 0, 0)),
-    }
+    let Some(layout) = answers::layout_of(a, d, rows, kind, edition) else {
+        return answers::no(model::refused(10, 0, 0));
+    };
+    change_in(layout, data, new_kind, out)
 }

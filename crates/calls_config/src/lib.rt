@@ -10,7 +10,6 @@ ghost use Rattle.calls_config.specs.Calls.{config_call};
 
 use answers::zl_answer;
 use config_rules::Config;
-use model::Answer;
 
 // The places of a configuration.
 const CONFIG: usize = 35;
@@ -28,14 +27,13 @@ fn show_config(config: Config, shown: &mut [i64]) -> zl_answer
 }
 
 // What an accepted configuration shows, as 35 places, or the first refusal; no room last of all.
+#[tactic(auto, unfolding(crate::specs::Calls::config_call))]
 pub fn config(cfg: &[u8], shown: &mut [i64]) -> zl_answer
     ensures value { result ≡ told_shown (config_call cfg.now (length shown.old)) }
     ensures shown_after { shown.new ≡ over (config_call cfg.now (length shown.old)) shown.old }
 {
-    let read = config::read_config(cfg);
-    let answer = read.answer;
-    match answer {
-        Answer::Yes => show_config(read.config, shown),
-        Answer::No(refusal) => answers::no(refusal),
+    match config::read_config(cfg) {
+        Ok(found) => show_config(found, shown),
+        Err(refusal) => answers::no(refusal),
     }
 }

@@ -1,12 +1,11 @@
 -- The exported calls on a data file.
 use Rattle.std.specs.Prelude.{List, ℕ, ◌+◌, eqb, leb, ℤ, length}
-use Rattle.ground.specs.Said.{Said, says, ◌>>=◌, ◌>>◌, must}
+use Rattle.ground.specs.Said.{Said, says, ◌>>=◌, ◌>>◌, must, answer_said}
 use Rattle.model.specs.declared.Layout.{Layout}
 use Rattle.model.specs.declared.Row.{Row}
 use Rattle.model.specs.declared.Refusal.{Refusal}
 use Rattle.model.specs.Layouts.{is_sized}
-use Rattle.model.specs.Refusals.{refused, answer_said}
-use Rattle.data.specs.declared.RowAnswer.{RowAnswer}
+use Rattle.model.specs.Refusals.{refused}
 use Rattle.data.specs.Files.{check_file, show_row, has_row, write_said}
 use Rattle.row_places.specs.Rows.{places_of, row_places, unfit, row_of_places}
 use Rattle.answers.specs.Answers.{layout_of, layout_said, placed}
@@ -18,17 +17,11 @@ check_call a d rows kind edition s = do
   answer_said (check_file l s)
   says 0
 
--- what the showing of a row says
-abbrev pub row_said : RowAnswer → Said Refusal Row
-row_said r = do
-  answer_said r.answer
-  says r.row
-
 -- zl_row: the places of row n; no room last of all
 unfoldable pub row_call : ℕ → ℕ → ℕ → ℕ → ℕ → List ℕ → ℕ → ℕ → Said Refusal (List ℤ)
 row_call a d rows kind edition s n room = do
   l ← layout_said (layout_of a d rows kind edition)
-  r ← row_said (show_row l s n)
+  r ← answer_said (show_row l s n)
   placed (places_of l) (row_places l r) room
 
 -- the row that places say: 10 for too few of them too, then 15, then 16 at the first that does not fit its field

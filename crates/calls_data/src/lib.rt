@@ -10,17 +10,18 @@ ghost use Rattle.answers.specs.Answers.{told, told_written, told_shown, placed};
 ghost use Rattle.calls_data.specs.Calls.{check_call, row_call, write_call};
 ghost use Rattle.calls_data.specs.Inner.{row_in, write_in};
 
-use answers::{LayoutNo, zl_answer};
-use model::{Answer, Layout, Row};
+use answers::zl_answer;
+use model::{Layout, Row};
 
 // Whether a data file is accepted, or the first refusal.
+#[tactic(auto, unfolding(crate::specs::Calls::check_call))]
 pub fn check(a: u32, d: u32, rows: u32, kind: u32, edition: u32, data: &[u8]) -> zl_answer
     ensures { result ≡ told (check_call a d rows kind edition «data».now) }
 {
-    match answers::layout_of(a, d, rows, kind, edition) {
-        LayoutNo::Is(layout) => answers::plainly(data::check(layout, data)),
-        LayoutNo::None => answers::no(model::refused(10, 0, 0)),
-    }
+    let Some(layout) = answers::layout_of(a, d, rows, kind, edition) else {
+        return answers::no(model::refused(10, 0, 0));
+    };
+    answers::plainly(data::check(layout, data))
 }
 
 // The places of a row, where there is room.
@@ -42,15 +43,14 @@ fn row_in(layout: Layout, data: &[u8], n: u32, shown: &mut [i64]) -> zl_answer
     ensures value { result ≡ told_shown (row_in layout «data».now n (length shown.old)) }
     ensures shown_after { shown.new ≡ over (row_in layout «data».now n (length shown.old)) shown.old }
 {
-    let found = data::show_row(layout, data, n);
-    let answer = found.answer;
-    match answer {
-        Answer::Yes => show_places(layout, found.row, shown),
-        Answer::No(refusal) => answers::no(refusal),
+    match data::show_row(layout, data, n) {
+        Ok(row) => show_places(layout, row, shown),
+        Err(refusal) => answers::no(refusal),
     }
 }
 
 // Time, samples and statuses of row n, as 1 + A + D places, or the first refusal; no room last of all.
+#[tactic(auto, unfolding(crate::specs::Calls::row_call, crate::specs::Inner::row_in))]
 pub fn row(
     a: u32,
     d: u32,
@@ -64,10 +64,10 @@ pub fn row(
     ensures value { result ≡ told_shown (row_call a d rows kind edition «data».now n (length shown.old)) }
     ensures shown_after { shown.new ≡ over (row_call a d rows kind edition «data».now n (length shown.old)) shown.old }
 {
-    match answers::layout_of(a, d, rows, kind, edition) {
-        LayoutNo::Is(layout) => row_in(layout, data, n, shown),
-        LayoutNo::None => answers::no(model::refused(10, 0, 0)),
-    }
+    let Some(layout) = answers::layout_of(a, d, rows, kind, edition) else {
+        return answers::no(model::refused(10, 0, 0));
+    };
+    row_in(layout, data, n, shown)
 }
 
 // Row n of the places in a layout, written at the front of `out`, or nothing is.
@@ -93,6 +93,7 @@ fn write_in(layout: Layout, n: u32, zs: &[i64], out: &mut [u8]) -> zl_answer
 }
 
 // The places of row n, written at the front of `out` as bytes of the kind, or nothing is.
+#[tactic(auto, unfolding(crate::specs::Calls::write_call, crate::specs::Inner::write_in))]
 pub fn write_row(
     a: u32,
     d: u32,
@@ -106,8 +107,8 @@ pub fn write_row(
     ensures value { result ≡ told_written (write_call a d rows kind edition n row.now (length out.old)) }
     ensures out_after { out.new ≡ over (write_call a d rows kind edition n row.now (length out.old)) out.old }
 {
-    match answers::layout_of(a, d, rows, kind, edition) {
-        LayoutNo::Is(layout) => write_in(layout, n, row, out),
-        LayoutNo::None => answers::no(model::refused(10, 0, 0)),
-    }
+    let Some(layout) = answers::layout_of(a, d, rows, kind, edition) else {
+        return answers::no(model::refused(10, 0, 0));
+    };
+    write_in(layout, n, row, out)
 }

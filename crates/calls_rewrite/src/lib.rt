@@ -9,16 +9,14 @@ ghost use Rattle.calls_rewrite.specs.Calls.{write_config_call};
 ghost use Rattle.calls_rewrite.specs.Inner.{refusal_or};
 
 use answers::zl_answer;
-use model::{Answer, Kind, KindNo, Refusal};
+use config_rules::Config;
+use model::{Kind, Refusal};
 
 // What an answer refuses, or else another refusal.
-fn refusal_or(answer: Answer, other: Refusal) -> Refusal
+fn refusal_or(answer: Result<Config, Refusal>, other: Refusal) -> Refusal
     ensures { result ≡ refusal_or answer other }
 {
-    match answer {
-        Answer::Yes => other,
-        Answer::No(refusal) => refusal,
-    }
+    answer.err().unwrap_or(other)
 }
 
 // The configuration in the kind of a number, written at the front of `out`, or nothing is.
@@ -27,10 +25,7 @@ pub fn write_config(cfg: &[u8], kind: u32, out: &mut [u8]) -> zl_answer
     ensures out_after { out.new ≡ over (write_config_call cfg.now kind (length out.old)) out.old }
 {
     match Kind::of(kind) {
-        KindNo::Is(k) => answers::counted(rewrite::write_config(cfg, k, out)),
-        KindNo::None => {
-            let answer = config::read_config(cfg).answer;
-            answers::no(refusal_or(answer, model::refused(10, 0, 0)))
-        }
+        Some(k) => answers::counted(rewrite::write_config(cfg, k, out)),
+        None => answers::no(refusal_or(config::read_config(cfg), model::refused(10, 0, 0))),
     }
 }

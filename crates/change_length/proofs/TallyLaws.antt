@@ -4,6 +4,7 @@
 --     mark-le                  the end mark is short
 --     rest-turn, tally-turn    a turn of the walk over the rows
 --     decided-walk             what is decided is what the walk and its tally say
+--     walk-told, walk-refused  what the walk says, by its answer
 -- Assumes nothing.
 use mathlib.Core.Path.{◌≡◌, refl, sym, ap, ◌∙◌}
 use mathlib.Core.List.{List, []}
@@ -11,7 +12,6 @@ use Prim.Native.Nat.{ℕ, zero, suc, ◌+◌, ◌≤◌}
 use native.Mathlib.Nat.{add-zero}
 use native.Mathlib.Numerals.{add-one}
 use native.Mathlib.Omega.{arith}
-use borrow.Author.Tests.{ne_eqb}
 use lib.Dec.{eqb}
 use lib.ListN.{length, drop}
 use Rattle.ground.specs.Said.{Said, says, refuses, ◌>>◌, must}
@@ -27,9 +27,12 @@ use Rattle.ascii_file.specs.Files.{mark}
 use Rattle.row_bytes.proofs.KindLaws.{text-kind, binary-kind, by-kind}
 use Rattle.rows.specs.Inner.{row_here, rest_of, check_here, start_fine, walk_fine}
 use Rattle.rows.proofs.WalkLaws.{rest-next, row-here, fine-walk, fine-taken}
+use Rattle.std.proofs.Common.{Err, None, Ok, Option, Some}
+use Rattle.std.specs.Option.{option_or}
+use Rattle.change_length.specs.declared.Misfit.{Misfit}
 use Rattle.change_length.specs.declared.Tally.{Tally}
 use Rattle.change_length.specs.Needed.{fit_row, fit_rows}
-use Rattle.change_length.specs.Inner.{rows_length, file_length, tallied, weigh, tally_of, weighed_of, settle, settle_all, decided}
+use Rattle.change_length.specs.Inner.{rows_length, file_length, row_misfit, tallied, weigh, tally_of, weighed_of, all_fit, settle, decided}
 
 module _ (l : Layout) (r : ℕ → Row) where
   -- one row more at the end
@@ -53,51 +56,51 @@ module _ (l : Layout) (r : ℕ → Row) where
   pub tally-length : (m : ℕ) → (tally_of l r m).length ≡ rows_length l r m
   unfolding tally_of rows_length weigh tallied
   tally-length zero = refl
-  tally-length (suc m) =
-      let t = tally_of l r m in
-      on_test (eqb t.at 0)
-      (λ e. on_test (eqb (misfit_of l (r m)) l.analogs) (λ f. rw (e, f, tally-length m)) (λ f. rw (e, f, tally-length m)))
-      (λ e. rw (e, tally-length m))
+  tally-length (suc m) = rw (tally-length m)
 
-  pub tally-fit : (m : ℕ) → fit_rows l r 0 m ≡ must (eqb (tally_of l r m).at 0) (refused 16 (tally_of l r m).at (tally_of l r m).field)
+  -- what is known already, and then what row n says
+  first-fit : (o : Option Misfit) (n bad a : ℕ)
+      → (all_fit o >> must (eqb bad a) (refused 16 n (3 + bad))) ≡ all_fit (option_or o (row_misfit n bad a))
+  first-fit (Some m) n bad a = refl
+  first-fit None n bad a = on_test (eqb bad a) (λ f. rw f) (λ f. rw f)
+
+  pub tally-fit : (m : ℕ) → fit_rows l r 0 m ≡ all_fit (tally_of l r m).misfit
   unfolding tally_of weigh tallied fit_rows
   tally-fit zero = refl
   tally-fit (suc m) =
-      let t = tally_of l r m in
       let z : 0 + m ≡ m = omega arith in
       let n : fit_rows l r 0 (suc m) ≡ (fit_rows l r 0 m >> fit_row l (m + 1) (r m)) = rw z at (fit_next 0 m) in
-      n
-      ∙ on_test (eqb t.at 0)
-      (λ e.
-      on_test (eqb (misfit_of l (r m)) l.analogs)
-      (λ f. rw (tally-fit m, e, f))
-      (λ f. rw (tally-fit m, e, f, ne_eqb (m + 1) 0 (λ q. omega arith))))
-      (λ e. rw (tally-fit m, e, e))
+      n ∙ rw (tally-fit m) (first-fit (tally_of l r m).misfit (m + 1) (misfit_of l (r m)) l.analogs)
 
   pub settled : settle l (tally_of l r l.rows) ≡ (fit_rows l r 0 l.rows >> says (file_length l r))
   unfolding settle file_length
   settled = rw (tally-fit l.rows, tally-length l.rows)
 
 pub decided-walk : (l : Layout) (s : List ℕ) (k : Kind)
-    → decided l s k ≡ (start_fine l s >> settle_all (in_kind k l) (weighed_of (walk_fine l s 1 l.rows) (tally_of (in_kind k l) (row_at l s) l.rows)))
-unfolding decided settle_all
+    → decided l s k ≡ (start_fine l s >> (walk_fine l s 1 l.rows >> settle (in_kind k l) (tally_of (in_kind k l) (row_at l s) l.rows)))
+unfolding decided
 decided-walk l s k =
     let m = in_kind k l in
     rw (fine-walk l s, ← settled m (row_at l s)) (go (start_fine l s) (walk_fine l s 1 l.rows))
   where
     go : (x y : Said Refusal (Unit {0}))
         → ((x >> y) >> settle (in_kind k l) (tally_of (in_kind k l) (row_at l s) l.rows))
-        ≡ (x >> settle_all (in_kind k l) (weighed_of y (tally_of (in_kind k l) (row_at l s) l.rows)))
-    go (says u) (says v) = refl
-    go (says u) (refuses r) = refl
+        ≡ (x >> (y >> settle (in_kind k l) (tally_of (in_kind k l) (row_at l s) l.rows)))
+    go (says u) y = refl
     go (refuses r) y = refl
+
+-- what the walk over all rows says, where it is told with a tally
+pub walk-told : (x : Said Refusal (Unit {0})) (t u : Tally) → weighed_of x t ≡ Ok u → (x ≡ says tt) × (t ≡ u)
+walk-told (says tt) t u e = (refl, cc)
+walk-told (refuses r) t u e = (cc, cc)
+
+pub walk-refused : (x : Said Refusal (Unit {0})) (t : Tally) (r : Refusal) → weighed_of x t ≡ Err r → x ≡ refuses r
+walk-refused (says tt) t r e = cc
+walk-refused (refuses q) t r e = cc
 
 pub tallied-length : (t : Tally) (n bad a m : ℕ) → (tallied t n bad a m).length ≡ m
 unfolding tallied
-tallied-length t n bad a m =
-    on_test (eqb t.at 0)
-    (λ e. on_test (eqb bad a) (λ f. rw (e, f)) (λ f. rw (e, f)))
-    (λ e. rw e)
+tallied-length t n bad a m = refl
 
 pub mark-le : (l : Layout) → length (end_mark l) ≤ 3
 unfolding end_mark

@@ -3,32 +3,30 @@
 #![tactic(auto)]
 
 ghost use Rattle.std.specs.Prelude.{◌≡◌, true, ◌+◌, ◌*◌, ◌≤◌, length};
-ghost use Rattle.ground.specs.Said.{says};
+ghost use Rattle.ground.specs.Said.{says, ◌>>◌, answer_of};
 ghost use Rattle.model.specs.declared.Kind.TheVariants.{Ascii};
 ghost use Rattle.model.specs.Layouts.{Sized, in_kind};
-ghost use Rattle.model.specs.Refusals.{needed_of, FewBytes};
+ghost use Rattle.model.specs.Refusals.{FewBytes};
 ghost use Rattle.binary_file.specs.Files.{check_binary};
 ghost use Rattle.data.specs.Files.{row_at, end_mark};
 ghost use Rattle.rows.specs.Inner.{HasRow, row_here, start_fine, walk_fine};
 ghost use Rattle.change_length.specs.Needed.{bytes_needed};
-ghost use Rattle.change_length.specs.Inner.{no_tally, tallied, weigh, tally_of, weighed_of, Short, settle_all, decided, both_binary, settle_binary};
+ghost use Rattle.change_length.specs.Inner.{no_tally, tallied, row_misfit, weigh, tally_of, weighed_of, Short, settle, decided, both_binary, settle_binary};
 
-use ascii_file::Checked;
-use model::{Answer, Kind, Layout, Refusal, Written};
+use model::{Kind, Layout, Refusal};
 
-// The first misfit's row and field, zeros where there is none, and the length of the rows.
+// A sample that does not fit: its row, and its field there.
 #[derive(Clone, Copy)]
-pub struct Tally {
+pub struct Misfit {
     pub at: u32,
     pub field: u32,
-    pub length: usize,
 }
 
-// The tally of a file that is fine, or its refusal.
+// The first misfit, and the length of the rows.
 #[derive(Clone, Copy)]
-pub enum Weighed {
-    Whole(Tally),
-    No(Refusal),
+pub struct Tally {
+    pub misfit: Option<Misfit>,
+    pub length: usize,
 }
 
 // Whether both kinds are binary.
@@ -51,41 +49,39 @@ fn no_tally() -> Tally
     ensures { result ≡ no_tally }
 {
     Tally {
-        at: 0,
-        field: 0,
+        misfit: None,
         length: 0,
     }
 }
 
+// The misfit of row n, of whose a samples the first that does not fit is known.
+fn row_misfit(n: u32, bad: u32, a: u32) -> Option<Misfit>
+    requires { bad ≤ 96 }
+    ensures { result ≡ row_misfit n bad a }
+{
+    if bad == a {
+        return None;
+    }
+    Some(Misfit {
+        at: n,
+        field: 3 + bad,
+    })
+}
+
 // The tally with one row more, of which the first misfit among a samples and the length are known.
+#[tactic(auto, unfolding(crate::specs::Inner::tallied))]
 fn tallied(tally: Tally, n: u32, bad: u32, a: u32, length: usize) -> Tally
     requires { bad ≤ 96 }
     ensures { result ≡ tallied tally n bad a length }
 {
-    let at = tally.at;
-    let field = tally.field;
-    if at != 0 {
-        return Tally {
-            at: at,
-            field: field,
-            length: length,
-        };
-    }
-    if bad != a {
-        return Tally {
-            at: n,
-            field: 3 + bad,
-            length: length,
-        };
-    }
     Tally {
-        at: 0,
-        field: 0,
+        misfit: tally.misfit.or(row_misfit(n, bad, a)),
         length: length,
     }
 }
 
 // The tally when row n, with which `rest` begins, was looked at too.
+#[tactic(auto, unfolding(data::specs::Files::misfit_of, crate::specs::Inner::weigh))]
 fn weigh(layout: Layout, kind: Kind, n: u32, rest: &[u8], tally: Tally) -> Tally
     requires { (Sized layout) × (HasRow layout rest.now) × (tally.length ≤ 2048 * 1000000) }
     ensures { (result ≡ weigh (in_kind kind layout) n (row_here layout rest.now) tally) × (result.length ≤ tally.length + 2048) }
@@ -100,34 +96,25 @@ fn weigh(layout: Layout, kind: Kind, n: u32, rest: &[u8], tally: Tally) -> Tally
 }
 
 // The tally of all rows of a file that may be walked, or the file's refusal.
-fn weigh_rows(layout: Layout, kind: Kind, data: &[u8], start: Tally) -> Weighed
+fn weigh_rows(layout: Layout, kind: Kind, data: &[u8], start: Tally) -> Result<Tally, Refusal>
     requires { (Sized layout) × (start_fine layout «data».now ≡ says tt) × (start ≡ no_tally) }
     ensures { (result ≡ weighed_of (walk_fine layout «data».now 1 layout.rows) (tally_of (in_kind kind layout) (row_at layout «data».now) layout.rows)) × Short result }
 {
     let rows = layout.rows;
     let mut t = data;
-    let mut i: u32 = 0;
     let mut tally = start;
-    while i < rows {
+    for i in 0..rows {
         let n = i + 1;
-        match rows::check_here(layout, n, t) {
-            Checked::No(refusal) => {
-                return Weighed::No(refusal);
-            }
-            Checked::Takes(taken) => {
-                tally = weigh(layout, kind, n, t, tally);
-                t = &t[taken..];
-                i = n;
-            }
-        }
+        let taken = rows::check_here(layout, n, t)?;
+        tally = weigh(layout, kind, n, t, tally);
+        t = &t[taken..];
     }
-    match rows::end_fine(layout, i + 1, t) {
-        Answer::Yes => Weighed::Whole(tally),
-        Answer::No(refusal) => Weighed::No(refusal),
-    }
+    rows::end_fine(layout, rows + 1, t)?;
+    Ok(tally)
 }
 
 // How many bytes the end mark of a layout's file takes.
+#[tactic(auto, unfolding(data::specs::Files::end_mark))]
 pub fn mark_length(layout: Layout) -> usize
     ensures { result ≡ length (end_mark layout) }
 {
@@ -139,64 +126,51 @@ pub fn mark_length(layout: Layout) -> usize
 }
 
 // What a tally says of the new file.
-fn settle(new: Layout, weighed: Weighed) -> Written
-    requires { Short weighed }
-    ensures { (result ≡ needed_of (settle_all new weighed)) × (FewBytes result) }
+#[tactic(auto, unfolding(crate::specs::Inner::settle))]
+fn settle(new: Layout, tally: Tally) -> Result<usize, Refusal>
+    requires { tally.length ≤ 2048 * 1000000 }
+    ensures { (result ≡ answer_of (settle new tally)) × (FewBytes result) }
 {
-    match weighed {
-        Weighed::Whole(tally) => {
-            if tally.at != 0 {
-                return Written::No(model::refused(16, tally.at, tally.field));
-            }
-            Written::Bytes(tally.length + mark_length(new))
-        }
-        Weighed::No(refusal) => Written::No(refusal),
+    if let Some(misfit) = tally.misfit {
+        return Err(model::refused(16, misfit.at, misfit.field));
     }
+    Ok(tally.length + mark_length(new))
 }
 
 // How many bytes the new file takes, or why there is none, where a text is read or written: row by row.
-fn decide_by_rows(layout: Layout, data: &[u8], kind: Kind) -> Written
+fn decide_by_rows(layout: Layout, data: &[u8], kind: Kind) -> Result<usize, Refusal>
     requires { Sized layout }
-    ensures { (result ≡ needed_of (decided layout «data».now kind)) × (FewBytes result) }
+    ensures { (result ≡ answer_of (decided layout «data».now kind)) × (FewBytes result) }
 {
-    match rows::start_fine(layout, data) {
-        Answer::Yes => settle(
-            layout.in_kind(kind),
-            weigh_rows(layout, kind, data, no_tally()),
-        ),
-        Answer::No(refusal) => Written::No(refusal),
-    }
+    rows::start_fine(layout, data)?;
+    let tally = weigh_rows(layout, kind, data, no_tally())?;
+    settle(layout.in_kind(kind), tally)
 }
 
 // How many bytes an accepted file of a binary kind takes in another, or 16 where a row does not fit.
-fn settle_binary(layout: Layout, data: &[u8], kind: Kind) -> Written
+#[tactic(auto, unfolding(crate::specs::Inner::settle_binary))]
+fn settle_binary(layout: Layout, data: &[u8], kind: Kind) -> Result<usize, Refusal>
     requires { (Sized layout) × (check_binary layout «data».now ≡ says tt) × (kind ≡ Ascii → ⊥) }
-    ensures { (result ≡ needed_of (settle_binary layout «data».now kind)) × (FewBytes result) }
+    ensures { (result ≡ answer_of (settle_binary layout «data».now kind)) × (FewBytes result) }
 {
-    match recode::all_fit(layout, kind, data) {
-        Answer::Yes => {
-            let size = binary_row::row_size(layout.in_kind(kind));
-            Written::Bytes(layout.rows as usize * size)
-        }
-        Answer::No(refusal) => Written::No(refusal),
-    }
+    recode::all_fit(layout, kind, data)?;
+    let size = binary_row::row_size(layout.in_kind(kind));
+    Ok(layout.rows as usize * size)
 }
 
 // How many bytes the new file takes, or why there is none, from one binary kind to another: no row is built.
-fn decide_binary(layout: Layout, data: &[u8], kind: Kind) -> Written
+fn decide_binary(layout: Layout, data: &[u8], kind: Kind) -> Result<usize, Refusal>
     requires { (Sized layout) × (both_binary layout.kind kind ≡ true) }
-    ensures { (result ≡ needed_of (decided layout «data».now kind)) × (FewBytes result) }
+    ensures { (result ≡ answer_of (decided layout «data».now kind)) × (FewBytes result) }
 {
-    match binary_file::check_binary(layout, data) {
-        Answer::Yes => settle_binary(layout, data, kind),
-        Answer::No(refusal) => Written::No(refusal),
-    }
+    binary_file::check_binary(layout, data)?;
+    settle_binary(layout, data, kind)
 }
 
 // How many bytes the new file takes, or why there is none.
-fn decide(layout: Layout, data: &[u8], kind: Kind) -> Written
+fn decide(layout: Layout, data: &[u8], kind: Kind) -> Result<usize, Refusal>
     requires { Sized layout }
-    ensures { (result ≡ needed_of (decided layout «data».now kind)) × (FewBytes result) }
+    ensures { (result ≡ answer_of (decided layout «data».now kind)) × (FewBytes result) }
 {
     let old = layout.kind;
     if both_binary(old, kind) {
@@ -206,15 +180,16 @@ fn decide(layout: Layout, data: &[u8], kind: Kind) -> Written
 }
 
 // How many bytes a change of kind needs, or the first refusal.
-pub fn bytes_needed(layout: Layout, data: &[u8], kind: Kind) -> Written
-    ensures { (result ≡ needed_of (bytes_needed layout «data».now kind)) × (FewBytes result) }
+#[tactic(auto, unfolding(crate::specs::Needed::bytes_needed))]
+pub fn bytes_needed(layout: Layout, data: &[u8], kind: Kind) -> Result<usize, Refusal>
+    ensures { (result ≡ answer_of (bytes_needed layout «data».now kind)) × (FewBytes result) }
 {
     if !layout.is_sized() {
-        return Written::No(model::refused(10, 0, 0));
+        return Err(model::refused(10, 0, 0));
     }
     let edition = layout.edition;
     if !edition.has(kind) {
-        return Written::No(model::refused(10, 0, 0));
+        return Err(model::refused(10, 0, 0));
     }
     decide(layout, data, kind)
 }

@@ -1,22 +1,21 @@
 -- Laws of the line of counts.
 --     channels-said      A and D are within the limits, and there is a channel
---     channels-le        so they are with the zeros beside a refusal
+--     channels-le        the same of what the code answers
 -- Assumes nothing.
-use mathlib.Core.Path.{◌≡◌, refl}
+use mathlib.Core.Path.{◌≡◌}
 use mathlib.Core.List.{List}
 use Prim.Native.Nat.{ℕ, ◌+◌, ◌≤◌}
 use native.Mathlib.Omega.{arith}
 use borrow.Author.Tests.{eqb-true}
 use lib.Dec.{eqb}
-use Rattle.ground.specs.Said.{Said, says, refuses}
-use Rattle.ground.proofs.SaidLaws.{must-told, bind-told}
+use Rattle.std.proofs.Common.{Ok}
+use Rattle.ground.specs.Said.{says, answer_of}
+use Rattle.ground.proofs.SaidLaws.{must-told, bind-told, answer-told}
 use Rattle.text.specs.Fields.{field_count, field_at}
 use Rattle.fields.specs.Fields.{read_count_in, read_lettered}
-use Rattle.line_fields.specs.declared.Fault.{Fault}
 use Rattle.line_fields.specs.Checks.{fault, value}
-use Rattle.line_fields.proofs.ValueLaws.{value-ge, lettered-le, number-told}
+use Rattle.line_fields.proofs.ValueLaws.{value-ge, lettered-le, value-told}
 use Rattle.channel_lines.specs.Channels.{channels_line}
-use Rattle.channel_lines.specs.Answers.{channels_of}
 
 pub channels-said : (l : List ℕ) (v : ℕ × ℕ) → channels_line l ≡ says v → (v.0 ≤ 96) × (v.1 ≤ 256) × (1 ≤ v.0 + v.1)
 unfolding channels_line
@@ -28,16 +27,12 @@ channels-said l v e =
     let s = must-told (eqb t.0 (a.0 + d.0)) (fault 7 3) _ v d.2 in
     let z = s.1 in
     let q : (a.0, d.0) ≡ v = cc in
-    let least = rw (number-told 1 (read_count_in 6 1 352 (field_at 1 l)) t.0 t.1) at (value-ge 6 1 352 (field_at 1 l)) in
+    let least = value-ge 6 1 352 (field_at 1 l) t.0 (value-told 1 (read_count_in 6 1 352 (field_at 1 l)) t.0 t.1) in
     rw (← q) (
-      rw (number-told 2 (read_lettered 65 96 (field_at 2 l)) a.0 a.1) at (lettered-le 65 96 (field_at 2 l)),
-      rw (number-told 3 (read_lettered 68 256 (field_at 3 l)) d.0 d.1) at (lettered-le 68 256 (field_at 3 l)),
-      omega (arith, least refl, eqb-true t.0 (a.0 + d.0) s.0),
+      lettered-le 65 96 (field_at 2 l) a.0 (value-told 2 (read_lettered 65 96 (field_at 2 l)) a.0 a.1),
+      lettered-le 68 256 (field_at 3 l) d.0 (value-told 3 (read_lettered 68 256 (field_at 3 l)) d.0 d.1),
+      omega (arith, least, eqb-true t.0 (a.0 + d.0) s.0),
     )
 
-channels-small : (x : Said Fault (ℕ × ℕ)) → ((v : ℕ × ℕ) → x ≡ says v → (v.0 ≤ 96) × (v.1 ≤ 256)) → ((channels_of x).analogs ≤ 96) × ((channels_of x).statuses ≤ 256)
-channels-small (says v) h = h v refl
-channels-small (refuses f) h = (omega arith, omega arith)
-
-pub channels-le : (l : List ℕ) → ((channels_of (channels_line l)).analogs ≤ 96) × ((channels_of (channels_line l)).statuses ≤ 256)
-channels-le l = channels-small (channels_line l) (λ v e. let s = channels-said l v e in (s.0, s.1))
+pub channels-le : (l : List ℕ) (v : ℕ × ℕ) → answer_of (channels_line l) ≡ Ok v → (v.0 ≤ 96) × (v.1 ≤ 256)
+channels-le l v e = let s = channels-said l v (answer-told (channels_line l) v e) in (s.0, s.1)

@@ -1,38 +1,27 @@
 -- What a line of channels refuses with: each number at its place.
 --     names-ruled, scale-ruled, limits-ruled, channels-ruled, analog-ruled, status-ruled     each line's rule, and the parts of a channel's
---     names-is, scale-is, limits-is     a part of a channel's line is the test of its fault's number
 -- Assumes nothing.
-use mathlib.Core.Path.{◌≡◌}
 use mathlib.Core.Bool.{not}
 use mathlib.Core.List.{List}
-use Prim.Native.Nat.{ℕ, ◌+◌, ◌≤◌}
+use Prim.Native.Nat.{ℕ, ◌+◌}
 use lib.Dec.{lit≤, eqb}
 use Rattle.ground.specs.Said.{must}
 use Rattle.text.specs.Fields.{field_at}
 use Rattle.fields.specs.Fields.{read_count_in, read_lettered, read_state, read_side}
-use Rattle.reals.specs.declared.Limit.{Limit}
-use Rattle.reals.specs.declared.Limit.TheVariants.{Is, Form, Range}
 use Rattle.reals.specs.Exact.{read_limit, max_below}
 use Rattle.line_fields.specs.Faults.{text_fault, index_fault, real_fault, side_fault, state_fault}
-use Rattle.line_fields.specs.Checks.{fault, has_fields, faultless, value}
-use Rattle.line_fields.specs.Answers.{fault_of}
-use Rattle.line_fields.proofs.PlaceLaws.{form, range, Ruled, text-check, index-check, real-check, value-check}
-use Rattle.line_fields.proofs.PlaceLaws.{has-fields-ruled, then-ruled, bind-ruled, faultless-ruled, agrees-ruled, number-ruled, part-is}
-use Rattle.channel_lines.specs.Channels.{limit_at, channels_line, names, scale, limits, analog_line, status_line}
-
--- min or max in field k, from the first on
-limit-ruled : (k : ℕ) → 1 ≤ k → (v : Limit) → Ruled (limit_at k v)
-limit-ruled k h (Is x) = tt
-limit-ruled k h Form = form k h
-limit-ruled k h Range = range k h
+use Rattle.line_fields.specs.Checks.{fault, has_fields, faultless, value_at, value}
+use Rattle.line_fields.proofs.PlaceLaws.{Ruled, text-check, index-check, real-check, value-check}
+use Rattle.line_fields.proofs.PlaceLaws.{has-fields-ruled, then-ruled, bind-ruled, faultless-ruled, agrees-ruled, value-ruled}
+use Rattle.channel_lines.specs.Channels.{channels_line, names, scale, limits, analog_line, status_line}
 
 pub channels-ruled : (l : List ℕ) → Ruled (channels_line l)
 unfolding channels_line
 channels-ruled l =
     then-ruled (has_fields 3 l) _ (has-fields-ruled 3 l)
-    (bind-ruled (value 1 (read_count_in 6 1 352) l) _ (number-ruled 1 (lit≤ tt) (read_count_in 6 1 352 (field_at 1 l))) (λ t.
-    bind-ruled (value 2 (read_lettered 65 96) l) _ (number-ruled 2 (lit≤ tt) (read_lettered 65 96 (field_at 2 l))) (λ a.
-    bind-ruled (value 3 (read_lettered 68 256) l) _ (number-ruled 3 (lit≤ tt) (read_lettered 68 256 (field_at 3 l))) (λ d.
+    (bind-ruled (value 1 (read_count_in 6 1 352) l) _ (value-ruled 1 (lit≤ tt) (read_count_in 6 1 352 (field_at 1 l))) (λ t.
+    bind-ruled (value 2 (read_lettered 65 96) l) _ (value-ruled 2 (lit≤ tt) (read_lettered 65 96 (field_at 2 l))) (λ a.
+    bind-ruled (value 3 (read_lettered 68 256) l) _ (value-ruled 3 (lit≤ tt) (read_lettered 68 256 (field_at 3 l))) (λ d.
     then-ruled (must (eqb t (a + d)) (fault 7 3)) _ (agrees-ruled 3 (lit≤ tt) (eqb t (a + d))) tt))))
 
 pub names-ruled : (n i : ℕ) (l : List ℕ) → Ruled (names n i l)
@@ -55,8 +44,8 @@ scale-ruled l =
 pub limits-ruled : (l : List ℕ) → Ruled (limits l)
 unfolding limits
 limits-ruled l =
-    bind-ruled (limit_at 9 (read_limit (field_at 9 l))) _ (limit-ruled 9 (lit≤ tt) (read_limit (field_at 9 l))) (λ low.
-    bind-ruled (limit_at 10 (read_limit (field_at 10 l))) _ (limit-ruled 10 (lit≤ tt) (read_limit (field_at 10 l))) (λ high.
+    bind-ruled (value_at 9 (read_limit (field_at 9 l))) _ (value-ruled 9 (lit≤ tt) (read_limit (field_at 9 l))) (λ low.
+    bind-ruled (value_at 10 (read_limit (field_at 10 l))) _ (value-ruled 10 (lit≤ tt) (read_limit (field_at 10 l))) (λ high.
     agrees-ruled 10 (lit≤ tt) (not (max_below high low))))
 
 pub analog-ruled : (i : ℕ) (l : List ℕ) → Ruled (analog_line i l)
@@ -72,12 +61,3 @@ analog-ruled i l =
 pub status-ruled : (i : ℕ) (l : List ℕ) → Ruled (status_line i l)
 unfolding status_line
 status-ruled i l = then-ruled (names 5 i l) _ (names-ruled 5 i l) (faultless-ruled 5 (lit≤ tt) state_fault l (λ f. value-check (read_state f)))
-
-pub names-is : (n i : ℕ) (l : List ℕ) → names n i l ≡ must (eqb (fault_of (names n i l)).number 0) (fault_of (names n i l))
-names-is n i l = part-is (names n i l) (names-ruled n i l)
-
-pub scale-is : (l : List ℕ) → scale l ≡ must (eqb (fault_of (scale l)).number 0) (fault_of (scale l))
-scale-is l = part-is (scale l) (scale-ruled l)
-
-pub limits-is : (l : List ℕ) → limits l ≡ must (eqb (fault_of (limits l)).number 0) (fault_of (limits l))
-limits-is l = part-is (limits l) (limits-ruled l)

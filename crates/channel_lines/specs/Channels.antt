@@ -1,21 +1,12 @@
 -- The lines that speak of channels: the counts, and a line for each channel. Their fields from the left, each with its rule.
 use Rattle.std.specs.Prelude.{not, List, ℕ, ◌+◌, eqb}
-use Rattle.ground.specs.Said.{Said, says, refuses, ◌>>=◌, ◌>>◌, must}
+use Rattle.ground.specs.Said.{Said, says, ◌>>=◌, ◌>>◌, must}
 use Rattle.text.specs.Fields.{field_at}
 use Rattle.fields.specs.Fields.{read_count_in, read_lettered}
-use Rattle.reals.specs.declared.Exact.{Exact}
-use Rattle.reals.specs.declared.Limit.{Limit}
-use Rattle.reals.specs.declared.Limit.TheVariants.{Is, Form, Range}
 use Rattle.reals.specs.Exact.{read_limit, max_below}
 use Rattle.line_fields.specs.declared.Fault.{Fault}
 use Rattle.line_fields.specs.Faults.{text_fault, index_fault, real_fault, side_fault, state_fault}
-use Rattle.line_fields.specs.Checks.{fault, has_fields, faultless, value}
-
--- what was read in field k as min or max: 5 for its form, 6 for a value that is not allowed
-abbrev pub limit_at : ℕ → Limit → Said Fault Exact
-limit_at k (Is x) = says x
-limit_at k Form = refuses (fault 5 k)
-limit_at k Range = refuses (fault 6 k)
+use Rattle.line_fields.specs.Checks.{fault, has_fields, faultless, value_at, value}
 
 -- TT, A followed by "A", D followed by "D"; TT is their sum. A and D are said
 unfoldable pub channels_line : List ℕ → Said Fault (ℕ × ℕ)
@@ -47,8 +38,8 @@ scale l = do
 -- min and max, of which max is not below min
 unfoldable pub limits : List ℕ → Said Fault (Unit {0})
 limits l = do
-  min ← limit_at 9 (read_limit (field_at 9 l))
-  max ← limit_at 10 (read_limit (field_at 10 l))
+  min ← value_at 9 (read_limit (field_at 9 l))
+  max ← value_at 10 (read_limit (field_at 10 l))
   must (not (max_below max min)) (fault 7 10)
 
 -- analog channel i: index, name, phase, circuit, unit, a, b, skew, min, max, primary, secondary, p P s S

@@ -1,3 +1,1 @@
 pub mod Channels
-pub mod Answers
-pub mod Inner

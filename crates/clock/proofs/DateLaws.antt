@@ -22,7 +22,7 @@ use lib.IntN.{pos, ◌+ℤ◌}
 use Rattle.ground.proofs.Cases.{on_test, clash}
 use Rattle.ground.proofs.Every.{and_split}
 use Rattle.clock.specs.declared.Date.{Date}
-use Rattle.clock.specs.declared.DateField.TheVariants.{Is}
+use Rattle.std.proofs.Common.{Ok, Some}
 use Rattle.patterns.specs.Patterns.{between, fits_pattern}
 use Rattle.clock.specs.Dates.{leap_year, short_month, month_days, valid_date, date_pattern, date_of, is_zero_date, read_date, days_of_years, days_of_months, day_number}
 use Rattle.clock.specs.Inner.{next_day}
@@ -157,7 +157,7 @@ next-valid x e h =
     let i : y + 1 ≤ 9999 = rw (t, u) at h in
     rw (t, u) (date-is _ (omega arith) i (omega arith) (omega arith) (omega arith) (omega (arith, month-between (y + 1) 1)))))
 
-pub read-date-valid : (l : List ℕ) (x : Date) → read_date l ≡ Is x → valid_date x ≡ true
+pub read-date-valid : (l : List ℕ) (x : Date) → read_date l ≡ Ok (Some x) → valid_date x ≡ true
 unfolding read_date
 read-date-valid l x =
     on_test (fits_pattern date_pattern l)

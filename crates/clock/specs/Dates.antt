@@ -2,8 +2,9 @@
 use Rattle.std.specs.Prelude.{ℕ, zero, suc, ◌+◌, ◌-◌, ◌*◌, ◌/◌, ◌%◌, Bool, true, false, not, ◌&&◌, ◌||◌, List, eqb, ℤ, pos, if◌then◌else◌}
 use Rattle.ground.specs.Quoted.{quoted}
 use Rattle.clock.specs.declared.Date.{Date}
-use Rattle.clock.specs.declared.DateField.{DateField}
-use Rattle.clock.specs.declared.DateField.TheVariants.{Is, None, Form, Range}
+use Rattle.std.specs.Prelude.{Err, None, Ok, Option, Result, Some}
+use Rattle.numerals.specs.declared.FieldError.{FieldError}
+use Rattle.numerals.specs.declared.FieldError.TheVariants.{Form, Range}
 use Rattle.patterns.specs.Patterns.{fits_pattern, digits_at, between}
 
 -- a leap year: by 400, or by 4 and not by 100
@@ -35,12 +36,12 @@ unfoldable pub is_zero_date : Date → Bool
 is_zero_date x = eqb x.day 0 && eqb x.month 0 && eqb x.year 0
 
 -- a date: the pattern first; all zeros are no date; and then the range
-unfoldable pub read_date : List ℕ → DateField
+unfoldable pub read_date : List ℕ → Result (Option Date) FieldError
 read_date l =
-    if not (fits_pattern date_pattern l) then Form
-    else if is_zero_date (date_of l) then None
-    else if valid_date (date_of l) then Is (date_of l)
-    else Range
+    if not (fits_pattern date_pattern l) then Err Form
+    else if is_zero_date (date_of l) then Ok None
+    else if valid_date (date_of l) then Ok (Some (date_of l))
+    else Err Range
 
 -- the days of the first n years, counted from year 1
 unfoldable pub days_of_years : ℕ → ℕ

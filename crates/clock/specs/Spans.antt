@@ -3,10 +3,8 @@ use Rattle.std.specs.Prelude.{◌≡◌, true, ℕ, ◌+◌, ◌-◌, leb, ℤ, 
 use Rattle.clock.specs.declared.Date.{Date}
 use Rattle.clock.specs.declared.Time.{Time}
 use Rattle.clock.specs.declared.Span.{Span}
-use Rattle.clock.specs.declared.Stamp.{Stamp}
-use Rattle.clock.specs.declared.Stamp.TheVariants.{At, None}
-use Rattle.clock.specs.declared.Pretrigger.{Pretrigger}
-use Rattle.clock.specs.declared.Pretrigger.TheVariants.{Is, Unknown}
+use Rattle.std.specs.Prelude.{None, Option, Some}
+use Rattle.clock.specs.declared.Moment.{Moment}
 use Rattle.clock.specs.Dates.{valid_date, day_number}
 use Rattle.clock.specs.Times.{valid_time, second_of_day}
 
@@ -26,12 +24,12 @@ pre_trigger first_date first_time trigger_date trigger_time =
     span_of (second_number trigger_date trigger_time -ℤ second_number first_date first_time) first_time.nanosecond trigger_time.nanosecond
 
 -- a stamp of the calendar: a date and a time of it, or none
-abbrev pub Calendar : Stamp → Type 0
-Calendar (At m) = (valid_date m.date ≡ true) × (valid_time m.time ≡ true)
+abbrev pub Calendar : Option Moment → Type 0
+Calendar (Some m) = (valid_date m.date ≡ true) × (valid_time m.time ≡ true)
 Calendar None = Unit {0}
 
 -- trigger minus first sample; unknown where either has no date
-unfoldable pub pretrigger_of : Stamp → Stamp → Pretrigger
-pretrigger_of (At a) (At b) = Is (pre_trigger a.date a.time b.date b.time)
-pretrigger_of (At a) None = Unknown
-pretrigger_of None b = Unknown
+unfoldable pub pretrigger_of : Option Moment → Option Moment → Option Span
+pretrigger_of (Some a) (Some b) = Some (pre_trigger a.date a.time b.date b.time)
+pretrigger_of (Some a) None = None
+pretrigger_of None b = None

@@ -3,8 +3,9 @@ use Rattle.std.specs.Prelude.{ℕ, ◌+◌, ◌-◌, ◌*◌, ◌^◌, Bool, ◌
 use Rattle.ground.specs.Quoted.{quoted}
 use Rattle.numerals.specs.Counts.{length_in}
 use Rattle.clock.specs.declared.Time.{Time}
-use Rattle.clock.specs.declared.TimeField.{TimeField}
-use Rattle.clock.specs.declared.TimeField.TheVariants.{Is, Form, Range}
+use Rattle.std.specs.Prelude.{Err, Ok, Result}
+use Rattle.numerals.specs.declared.FieldError.{FieldError}
+use Rattle.numerals.specs.declared.FieldError.TheVariants.{Form, Range}
 use Rattle.patterns.specs.Patterns.{fits_pattern, digits_at}
 
 -- hours to 23, minutes and seconds to 59, and less than a second in nanoseconds
@@ -28,8 +29,8 @@ unfoldable pub time_of : List ℕ → Time
 time_of l = record { hour = digits_at 0 2 l; minute = digits_at 3 5 l; second = digits_at 6 8 l; nanosecond = fraction_of l }
 
 -- a time of day: the pattern first, and then the range
-unfoldable pub read_time : List ℕ → TimeField
-read_time l = if time_form l then if valid_time (time_of l) then Is (time_of l) else Range else Form
+unfoldable pub read_time : List ℕ → Result Time FieldError
+read_time l = if time_form l then if valid_time (time_of l) then Ok (time_of l) else Err Range else Err Form
 
 -- a time of zeros
 unfoldable pub is_zero_time : Time → Bool

@@ -2,8 +2,10 @@
 ghost use Rattle.std.specs.Prelude.{◌≡◌, true, ◌≤◌, length};
 ghost use Rattle.clock.specs.Dates.{leap_year, short_month, month_days, valid_date, date_of, is_zero_date, read_date, days_of_years, days_of_months, day_number};
 
-use crate::{Date, DateField};
+use crate::Date;
+use numerals::FieldError;
 
+#[tactic(auto, unfolding(crate::specs::Dates::leap_year))]
 fn leap_year(year: u32) -> bool
     ensures { result ≡ leap_year year }
 {
@@ -16,6 +18,7 @@ fn leap_year(year: u32) -> bool
     year % 4 == 0
 }
 
+#[tactic(auto, unfolding(crate::specs::Dates::short_month))]
 fn short_month(month: u32) -> bool
     ensures { result ≡ short_month month }
 {
@@ -25,6 +28,7 @@ fn short_month(month: u32) -> bool
     }
 }
 
+#[tactic(auto, unfolding(crate::specs::Dates::month_days))]
 fn month_days(year: u32, month: u32) -> u32
     ensures { result ≡ month_days year month }
 {
@@ -35,6 +39,7 @@ fn month_days(year: u32, month: u32) -> u32
 }
 
 // Whether this is a day of the calendar in the years 1900 to 9999.
+#[tactic(auto, unfolding(crate::specs::Dates::valid_date))]
 pub fn valid_date(date: Date) -> bool
     ensures { result ≡ valid_date date }
 {
@@ -47,6 +52,7 @@ pub fn valid_date(date: Date) -> bool
     patterns::between(1, month_days(date.year, date.month), date.day)
 }
 
+#[tactic(auto, unfolding(crate::specs::Dates::date_of))]
 fn date_of(s: &[u8]) -> Date
     requires { length s.now ≡ 10 }
     ensures { result ≡ date_of s.now }
@@ -59,6 +65,7 @@ fn date_of(s: &[u8]) -> Date
 }
 
 // Whether this is the date of zeros.
+#[tactic(auto, unfolding(crate::specs::Dates::is_zero_date))]
 fn is_zero_date(date: Date) -> bool
     ensures { result ≡ is_zero_date date }
 {
@@ -72,24 +79,26 @@ fn is_zero_date(date: Date) -> bool
 }
 
 // A field as a date: no date where it is 00/00/0000.
-pub fn read_date(field: &[u8]) -> DateField
+#[tactic(auto, unfolding(crate::specs::Dates::read_date))]
+pub fn read_date(field: &[u8]) -> Result<Option<Date>, FieldError>
     ensures { result ≡ read_date field.now }
 {
     if !patterns::fits_pattern(b"dd/dd/dddd", field) {
-        return DateField::Form;
+        return Err(FieldError::Form);
     }
     let date = date_of(field);
     if is_zero_date(date) {
-        return DateField::None;
+        return Ok(None);
     }
     if valid_date(date) {
-        DateField::Is(date)
+        Ok(Some(date))
     } else {
-        DateField::Range
+        Err(FieldError::Range)
     }
 }
 
 // The days of the first `years` years.
+#[tactic(auto, unfolding(crate::specs::Dates::days_of_years))]
 fn days_of_years(years: u32) -> u32
     requires { years ≤ 9999 }
     ensures { result ≡ days_of_years years }
@@ -103,15 +112,14 @@ fn days_of_months(year: u32, months: u32) -> u32
     ensures { result ≡ days_of_months year months }
 {
     let mut days = 0;
-    let mut m = 0;
-    while m < months {
-        m += 1;
+    for m in 1..=months {
         days += month_days(year, m);
     }
     days
 }
 
 // The number of the day.
+#[tactic(auto, unfolding(crate::specs::Dates::day_number))]
 pub fn day_number(date: Date) -> i64
     requires { valid_date date ≡ true }
     ensures { result ≡ day_number date }

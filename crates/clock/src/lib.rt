@@ -17,29 +17,12 @@ pub struct Date {
     pub year: u32,
 }
 
-// A date, no date (all zeros), a wrong form, or a form that is right and no date of the calendar.
-#[derive(Clone, Copy)]
-pub enum DateField {
-    Is(Date),
-    None,
-    Form,
-    Range,
-}
-
 #[derive(Clone, Copy)]
 pub struct Time {
     pub hour: u32,
     pub minute: u32,
     pub second: u32,
     pub nanosecond: u32,
-}
-
-// A time of day, a wrong form, or a form that is right and no time of day.
-#[derive(Clone, Copy)]
-pub enum TimeField {
-    Is(Time),
-    Form,
-    Range,
 }
 
 // A date and a time.
@@ -49,23 +32,9 @@ pub struct Moment {
     pub time: Time,
 }
 
-// What a date line says: a moment, or no date.
-#[derive(Clone, Copy)]
-pub enum Stamp {
-    At(Moment),
-    None,
-}
-
 // A signed time: whole seconds, rounded down, and the nanoseconds above them.
 #[derive(Clone, Copy)]
 pub struct Span {
     pub seconds: i64,
     pub nanoseconds: u32,
-}
-
-// The time from the first sample to the trigger, unknown where either has no date.
-#[derive(Clone, Copy)]
-pub enum Pretrigger {
-    Is(Span),
-    Unknown,
 }

@@ -1,14 +1,15 @@
 // Seconds counted over the days, and the pre-trigger time.
-ghost use Rattle.std.specs.Prelude.{◌≡◌, true};
+ghost use Rattle.std.specs.Prelude.{◌≡◌, true, Some};
 ghost use Rattle.clock.specs.Dates.{valid_date};
 ghost use Rattle.clock.specs.Times.{valid_time};
 ghost use Rattle.clock.specs.Spans.{second_number, pre_trigger, Calendar, pretrigger_of};
 
 use crate::dates::day_number;
 use crate::times::second_of_day;
-use crate::{Date, Moment, Pretrigger, Span, Stamp, Time};
+use crate::{Date, Moment, Span, Time};
 
 // The number of the second.
+#[tactic(auto, unfolding(crate::specs::Spans::second_number))]
 pub fn second_number(date: Date, time: Time) -> i64
     requires { (valid_date date ≡ true) × (valid_time time ≡ true) }
     ensures { result ≡ second_number date time }
@@ -17,6 +18,7 @@ pub fn second_number(date: Date, time: Time) -> i64
 }
 
 // Trigger minus first sample, the seconds rounded down.
+#[tactic(auto, unfolding(crate::specs::Spans::pre_trigger, crate::specs::Spans::span_of))]
 pub fn pre_trigger(
     first_date: Date,
     first_time: Time,
@@ -44,25 +46,21 @@ pub fn pre_trigger(
 }
 
 // The time from a first sample that has a date.
-fn pretrigger_from(first: Moment, trigger: Stamp) -> Pretrigger
-    requires { Calendar (Stamp.At first) × Calendar trigger }
-    ensures { result ≡ pretrigger_of (Stamp.At first) trigger }
+#[tactic(auto, unfolding(crate::specs::Spans::pretrigger_of))]
+fn pretrigger_from(first: Moment, trigger: Option<Moment>) -> Option<Span>
+    requires { Calendar (Some first) × Calendar trigger }
+    ensures { result ≡ pretrigger_of (Some first) trigger }
 {
-    match trigger {
-        Stamp::At(moment) => {
-            Pretrigger::Is(pre_trigger(first.date, first.time, moment.date, moment.time))
-        }
-        Stamp::None => Pretrigger::Unknown,
-    }
+    let moment = trigger?;
+    Some(pre_trigger(first.date, first.time, moment.date, moment.time))
 }
 
 // Trigger minus first sample, where both have a date.
-pub fn pretrigger_of(first: Stamp, trigger: Stamp) -> Pretrigger
+#[tactic(auto, unfolding(crate::specs::Spans::pretrigger_of))]
+pub fn pretrigger_of(first: Option<Moment>, trigger: Option<Moment>) -> Option<Span>
     requires { Calendar first × Calendar trigger }
     ensures { result ≡ pretrigger_of first trigger }
 {
-    match first {
-        Stamp::At(moment) => pretrigger_from(moment, trigger),
-        Stamp::None => Pretrigger::Unknown,
-    }
+    let moment = first?;
+    pretrigger_from(moment, trigger)
 }

@@ -2,9 +2,11 @@
 ghost use Rattle.std.specs.Prelude.{◌≡◌, true, ◌≤◌, length};
 ghost use Rattle.clock.specs.Times.{valid_time, time_form, fraction_of, time_of, read_time, is_zero_time, second_of_day};
 
-use crate::{Time, TimeField};
+use crate::Time;
+use numerals::FieldError;
 
 // Whether this is a time of day.
+#[tactic(auto, unfolding(crate::specs::Times::valid_time))]
 pub fn valid_time(time: Time) -> bool
     ensures { result ≡ valid_time time }
 {
@@ -20,6 +22,7 @@ pub fn valid_time(time: Time) -> bool
     time.nanosecond < 1_000_000_000
 }
 
+#[tactic(auto, unfolding(crate::specs::Times::time_form))]
 fn time_form(s: &[u8]) -> bool
     ensures { result ≡ time_form s.now }
 {
@@ -36,15 +39,11 @@ fn fraction_of(s: &[u8]) -> u32
     requires { (15 ≤ length s.now) × (length s.now ≤ 18) }
     ensures { result ≡ fraction_of s.now }
 {
-    let mut n = patterns::digits_at(s, 9, s.len());
-    let mut k = s.len();
-    while k < 18 {
-        n = 10 * n;
-        k += 1;
-    }
-    n
+    let n = patterns::digits_at(s, 9, s.len());
+    n * 10_u32.pow((18 - s.len()) as u32)
 }
 
+#[tactic(auto, unfolding(crate::specs::Times::time_of))]
 fn time_of(s: &[u8]) -> Time
     requires { (15 ≤ length s.now) × (length s.now ≤ 18) }
     ensures { result ≡ time_of s.now }
@@ -58,21 +57,23 @@ fn time_of(s: &[u8]) -> Time
 }
 
 // A field that has the form hh:mm:ss. and 6 to 9 digits.
-pub fn read_time(field: &[u8]) -> TimeField
+#[tactic(auto, unfolding(crate::specs::Times::read_time))]
+pub fn read_time(field: &[u8]) -> Result<Time, FieldError>
     ensures { result ≡ read_time field.now }
 {
     if !time_form(field) {
-        return TimeField::Form;
+        return Err(FieldError::Form);
     }
     let time = time_of(field);
     if valid_time(time) {
-        TimeField::Is(time)
+        Ok(time)
     } else {
-        TimeField::Range
+        Err(FieldError::Range)
     }
 }
 
 // Whether this is a time of zeros.
+#[tactic(auto, unfolding(crate::specs::Times::is_zero_time))]
 pub fn is_zero_time(time: Time) -> bool
     ensures { result ≡ is_zero_time time }
 {
@@ -89,6 +90,7 @@ pub fn is_zero_time(time: Time) -> bool
 }
 
 // The whole seconds of the day that are gone.
+#[tactic(auto, unfolding(crate::specs::Times::second_of_day))]
 pub fn second_of_day(time: Time) -> u32
     requires { valid_time time ≡ true }
     ensures { result ≡ second_of_day time }

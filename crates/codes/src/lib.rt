@@ -5,16 +5,17 @@
 ghost use Rattle.std.specs.Prelude.{◌≡◌, ◌≤◌};
 ghost use Rattle.codes.specs.Codes.{signed_minutes, minutes_of, hours_and_minutes, hours_of, small_x, code_of, code_in, read_code, read_local_code};
 
-// A time code in signed minutes, a small x, a wrong form, or hours or minutes out of range.
+use numerals::FieldError;
+
+// A time code in signed minutes, or a small x.
 #[derive(Clone, Copy)]
 pub enum Code {
     Minutes(i64),
     X,
-    Form,
-    Range,
 }
 
 // Hours and minutes as minutes, the sign over both.
+#[tactic(auto, unfolding(crate::specs::Codes::signed_minutes))]
 fn signed_minutes(minus: bool, hours: u32, minutes: u32) -> i64
     requires { (hours ≤ 14) × (minutes ≤ 59) }
     ensures { result ≡ signed_minutes minus hours minutes }
@@ -29,20 +30,22 @@ fn signed_minutes(minus: bool, hours: u32, minutes: u32) -> i64
 }
 
 // Hours to 14 and minutes to 59.
-fn minutes_of(minus: bool, hours: u32, minutes: u32) -> Code
+#[tactic(auto, unfolding(crate::specs::Codes::minutes_of))]
+fn minutes_of(minus: bool, hours: u32, minutes: u32) -> Result<Code, FieldError>
     ensures { result ≡ minutes_of minus hours minutes }
 {
     if !patterns::between(0, 14, hours) {
-        return Code::Range;
+        return Err(FieldError::Range);
     }
     if !patterns::between(0, 59, minutes) {
-        return Code::Range;
+        return Err(FieldError::Range);
     }
-    Code::Minutes(signed_minutes(minus, hours, minutes))
+    Ok(Code::Minutes(signed_minutes(minus, hours, minutes)))
 }
 
 // Hours, an h and minutes.
-fn hours_and_minutes(minus: bool, s: &[u8]) -> Code
+#[tactic(auto, unfolding(crate::specs::Codes::hours_and_minutes))]
+fn hours_and_minutes(minus: bool, s: &[u8]) -> Result<Code, FieldError>
     ensures { result ≡ hours_and_minutes minus s.now }
 {
     if patterns::fits_pattern(b"dhdd", s) {
@@ -59,11 +62,12 @@ fn hours_and_minutes(minus: bool, s: &[u8]) -> Code
             patterns::digits_at(s, 3, 5),
         );
     }
-    Code::Form
+    Err(FieldError::Form)
 }
 
 // What stands after the sign: hours alone, or with minutes.
-fn hours_of(minus: bool, s: &[u8]) -> Code
+#[tactic(auto, unfolding(crate::specs::Codes::hours_of))]
+fn hours_of(minus: bool, s: &[u8]) -> Result<Code, FieldError>
     ensures { result ≡ hours_of minus s.now }
 {
     if patterns::fits_pattern(b"d", s) {
@@ -76,6 +80,7 @@ fn hours_of(minus: bool, s: &[u8]) -> Code
 }
 
 // A small x, where it is allowed.
+#[tactic(auto, unfolding(crate::specs::Codes::small_x))]
 fn small_x(local: bool, s: &[u8]) -> bool
     ensures { result ≡ small_x local s.now }
 {
@@ -86,35 +91,39 @@ fn small_x(local: bool, s: &[u8]) -> bool
 }
 
 // What stands after the leading spaces.
-fn code_of(local: bool, s: &[u8]) -> Code
+#[tactic(auto, unfolding(crate::specs::Codes::code_of))]
+fn code_of(local: bool, s: &[u8]) -> Result<Code, FieldError>
     ensures { result ≡ code_of local s.now }
 {
     if small_x(local, s) {
-        return Code::X;
+        return Ok(Code::X);
     }
     let n = numerals::sign_length(s);
     hours_of(numerals::has_minus(s), &s[n..])
 }
 
-fn code_in(local: bool, field: &[u8]) -> Code
+#[tactic(auto, unfolding(crate::specs::Codes::code_in))]
+fn code_in(local: bool, field: &[u8]) -> Result<Code, FieldError>
     ensures { result ≡ code_in local field.now }
 {
     if !numerals::length_in(field, 1, 6) {
-        return Code::Form;
+        return Err(FieldError::Form);
     }
     let n = numerals::leading_spaces(field);
     code_of(local, &field[n..])
 }
 
 // The time code.
-pub fn read_code(field: &[u8]) -> Code
+#[tactic(auto, unfolding(crate::specs::Codes::read_code))]
+pub fn read_code(field: &[u8]) -> Result<Code, FieldError>
     ensures { result ≡ read_code field.now }
 {
     code_in(false, field)
 }
 
 // The local code, which may be a small x.
-pub fn read_local_code(field: &[u8]) -> Code
+#[tactic(auto, unfolding(crate::specs::Codes::read_local_code))]
+pub fn read_local_code(field: &[u8]) -> Result<Code, FieldError>
     ensures { result ≡ read_local_code field.now }
 {
     code_in(true, field)

@@ -2,74 +2,54 @@
 use Rattle.std.specs.Prelude.{Bool, true, false, List, ℕ, ltb, ℤ, pos, if◌then◌else◌}
 use Rattle.ground.specs.Said.{Said, says, refuses, ◌>>=◌, ◌>>◌, must}
 use Rattle.text.specs.Fields.{field_at}
-use Rattle.numerals.specs.declared.Count.{Count}
-use Rattle.numerals.specs.declared.Count.TheVariants as count
-use Rattle.fields.specs.declared.KindField.{KindField}
-use Rattle.fields.specs.declared.KindField.TheVariants as kind
+use Rattle.std.specs.Prelude.{Err, None, Ok, Option, Result, Some}
+use Rattle.clock.specs.declared.Moment.{Moment}
+use Rattle.numerals.specs.declared.FieldError.{FieldError}
+use Rattle.clock.specs.declared.Date.{Date}
+use Rattle.codes.specs.declared.Code.{Code}
+use Rattle.codes.specs.declared.Code.TheVariants.{Minutes, X}
+use Rattle.numerals.specs.declared.FieldError.TheVariants.{Form, Range}
 use Rattle.fields.specs.Fields.{read_count_in, read_year, read_quality, read_leap, read_kind}
-use Rattle.clock.specs.declared.DateField.{DateField}
-use Rattle.clock.specs.declared.DateField.TheVariants as date
 use Rattle.clock.specs.declared.Time.{Time}
-use Rattle.clock.specs.declared.TimeField.{TimeField}
-use Rattle.clock.specs.declared.TimeField.TheVariants as time
-use Rattle.clock.specs.declared.Stamp.{Stamp}
-use Rattle.clock.specs.declared.Stamp.TheVariants as stamp
 use Rattle.clock.specs.Dates.{read_date}
 use Rattle.clock.specs.Times.{read_time, is_zero_time}
-use Rattle.codes.specs.declared.Code.{Code}
-use Rattle.codes.specs.declared.Code.TheVariants as code
 use Rattle.codes.specs.Codes.{read_code, read_local_code}
 use Rattle.model.specs.declared.Kind.{Kind}
 use Rattle.model.specs.declared.Edition.{Edition}
-use Rattle.model.specs.declared.EditionNo.{EditionNo}
-use Rattle.model.specs.declared.EditionNo.TheVariants as edition
 use Rattle.model.specs.Editions.{edition_of, has_kind}
 use Rattle.line_fields.specs.declared.Fault.{Fault}
 use Rattle.line_fields.specs.Faults.{text_fault, frequency_fault, above_fault, rate_fault}
-use Rattle.line_fields.specs.Checks.{fault, has_fields, faultless, value}
+use Rattle.line_fields.specs.Checks.{fault, has_fields, faultless, value_at, value}
 
 -- the edition of the year in field k: 8 for a year that is none's
-abbrev pub edition_at : ℕ → EditionNo → Said Fault Edition
-edition_at k (edition.Is e) = says e
-edition_at k edition.None = refuses (fault 8 k)
+abbrev pub edition_at : ℕ → Option Edition → Said Fault Edition
+edition_at k (Some e) = says e
+edition_at k None = refuses (fault 8 k)
 
 -- the edition by its year: 5 for its form
-abbrev pub year_at : ℕ → Count → Said Fault Edition
-year_at k (count.Is y) = edition_at k (edition_of y)
-year_at k count.Form = refuses (fault 5 k)
-
--- What was read in field k: 5 for its form, 6 for a value that is not allowed
--- a time
-abbrev pub time_at : ℕ → TimeField → Said Fault Time
-time_at k (time.Is t) = says t
-time_at k time.Form = refuses (fault 5 k)
-time_at k time.Range = refuses (fault 6 k)
+abbrev pub year_at : ℕ → Option ℕ → Said Fault Edition
+year_at k (Some y) = edition_at k (edition_of y)
+year_at k None = refuses (fault 5 k)
 
 -- a kind that the edition has; another is not allowed
-abbrev pub of_edition : Edition → KindField → KindField
-of_edition e (kind.Is x) = if has_kind e x then kind.Is x else kind.Range
-of_edition e kind.Form = kind.Form
-of_edition e kind.Range = kind.Range
-
--- a kind
-abbrev pub kind_at : ℕ → KindField → Said Fault Kind
-kind_at k (kind.Is x) = says x
-kind_at k kind.Form = refuses (fault 5 k)
-kind_at k kind.Range = refuses (fault 6 k)
+abbrev pub of_edition : Edition → Result Kind FieldError → Result Kind FieldError
+of_edition e (Ok x) = if has_kind e x then Ok x else Err Range
+of_edition e (Err Form) = Err Form
+of_edition e (Err Range) = Err Range
 
 -- the minutes of a time code
-abbrev pub code_at : ℕ → Code → Said Fault ℤ
-code_at k (code.Minutes m) = says m
-code_at k code.X = refuses (fault 5 k)
-code_at k code.Form = refuses (fault 5 k)
-code_at k code.Range = refuses (fault 6 k)
+abbrev pub code_at : ℕ → Result Code FieldError → Said Fault ℤ
+code_at k (Ok (Minutes m)) = says m
+code_at k (Ok X) = refuses (fault 5 k)
+code_at k (Err Form) = refuses (fault 5 k)
+code_at k (Err Range) = refuses (fault 6 k)
 
 -- whether a local code is x, and its minutes
-abbrev pub local_at : ℕ → Code → Said Fault (Bool × ℤ)
-local_at k (code.Minutes m) = says (false, m)
-local_at k code.X = says (true, pos 0)
-local_at k code.Form = refuses (fault 5 k)
-local_at k code.Range = refuses (fault 6 k)
+abbrev pub local_at : ℕ → Result Code FieldError → Said Fault (Bool × ℤ)
+local_at k (Ok (Minutes m)) = says (false, m)
+local_at k (Ok X) = says (true, pos 0)
+local_at k (Err Form) = refuses (fault 5 k)
+local_at k (Err Range) = refuses (fault 6 k)
 
 -- station, device, year, which says the edition
 unfoldable pub station_line : List ℕ → Said Fault Edition
@@ -101,24 +81,24 @@ rate_line none before l = do
   says last
 
 -- beside a date of zeros: a time of zeros, and there is no date; anything else is 6 at the date
-abbrev pub none_said : TimeField → Said Fault Stamp
-none_said (time.Is t) = do
+abbrev pub none_said : Result Time FieldError → Said Fault (Option Moment)
+none_said (Ok t) = do
   must (is_zero_time t) (fault 6 1)
-  says stamp.None
-none_said time.Form = refuses (fault 6 1)
-none_said time.Range = refuses (fault 6 1)
+  says None
+none_said (Err Form) = refuses (fault 6 1)
+none_said (Err Range) = refuses (fault 6 1)
 
 -- what a date and a time say together
-abbrev pub stamp_said : DateField → TimeField → Said Fault Stamp
-stamp_said (date.Is x) t = do
-  y ← time_at 2 t
-  says (stamp.At (record { date = x; time = y }))
-stamp_said date.None t = none_said t
-stamp_said date.Form t = refuses (fault 5 1)
-stamp_said date.Range t = refuses (fault 6 1)
+abbrev pub stamp_said : Result (Option Date) FieldError → Result Time FieldError → Said Fault (Option Moment)
+stamp_said (Ok (Some x)) t = do
+  y ← value_at 2 t
+  says (Some (record { date = x; time = y }))
+stamp_said (Ok None) t = none_said t
+stamp_said (Err Form) t = refuses (fault 5 1)
+stamp_said (Err Range) t = refuses (fault 6 1)
 
 -- a date and a time, or no date
-unfoldable pub date_line : List ℕ → Said Fault Stamp
+unfoldable pub date_line : List ℕ → Said Fault (Option Moment)
 date_line l = do
   has_fields 2 l
   stamp_said (read_date (field_at 1 l)) (read_time (field_at 2 l))
@@ -127,7 +107,7 @@ date_line l = do
 unfoldable pub kind_line : Edition → List ℕ → Said Fault Kind
 kind_line e l = do
   has_fields 1 l
-  kind_at 1 (of_edition e (read_kind (field_at 1 l)))
+  value_at 1 (of_edition e (read_kind (field_at 1 l)))
 
 -- the time multiplier: a real above zero
 unfoldable pub multiplier_line : List ℕ → Said Fault (Unit {0})

@@ -9,31 +9,29 @@ use mathlib.Core.Path.{◌≡◌, refl}
 use mathlib.Core.List.{[], ◌∷◌, ◌++◌}
 use lib.IntN.{pos}
 use lib.ListN.{length, length-append}
-use Rattle.clock.specs.declared.Stamp.{Stamp}
-use Rattle.clock.specs.declared.Stamp.TheVariants.{At, None}
-use Rattle.clock.specs.declared.Pretrigger.{Pretrigger}
-use Rattle.clock.specs.declared.Pretrigger.TheVariants.{Is, Unknown}
+use Rattle.std.proofs.Common.{None, Option, Some}
+use Rattle.clock.specs.declared.Moment.{Moment}
+use Rattle.config_rules.specs.declared.LastLines.{LastLines}
+use Rattle.clock.specs.declared.Span.{Span}
 use Rattle.model.specs.declared.Kind.{Kind}
 use Rattle.model.specs.Editions.{year_of}
-use Rattle.config_rules.specs.declared.Last.{Last}
-use Rattle.config_rules.specs.declared.Last.TheVariants.{Lines, Absent}
 use Rattle.config_rules.specs.declared.Config.{Config}
 use Rattle.config_places.specs.Configs.{stamp_places, pretrigger_places, start_places, end_places, other_places, config_places}
 
-pub stamp-places : (v : Stamp) → length (stamp_places v) ≡ 7
-stamp-places (At m) = refl
+pub stamp-places : (v : Option Moment) → length (stamp_places v) ≡ 7
+stamp-places (Some m) = refl
 stamp-places None = refl
 
-pub pretrigger-places : (v : Pretrigger) → length (pretrigger_places v) ≡ 2
-pretrigger-places (Is p) = refl
-pretrigger-places Unknown = refl
+pub pretrigger-places : (v : Option Span) → length (pretrigger_places v) ≡ 2
+pretrigger-places (Some p) = refl
+pretrigger-places None = refl
 
-pub start-places : (v : Pretrigger) (k : Kind) → length (start_places v k) ≡ 3
+pub start-places : (v : Option Span) (k : Kind) → length (start_places v k) ≡ 3
 start-places v k = rw (length-append, pretrigger-places v)
 
-pub end-places : (v : Last) → length (end_places v) ≡ 5
-end-places (Lines e) = refl
-end-places Absent = refl
+pub end-places : (v : Option LastLines) → length (end_places v) ≡ 5
+end-places (Some e) = refl
+end-places None = refl
 
 pub config-places : (c : Config) → length (config_places c) ≡ 35
 unfolding config_places

@@ -2,16 +2,13 @@
 use Rattle.std.specs.Prelude.{List, [], ◌∷◌, ◌++◌, ℕ, ℤ, pos, get_or}
 use Rattle.ground.specs.Tables.{tab}
 use Rattle.clock.specs.declared.Moment.{Moment}
-use Rattle.clock.specs.declared.Stamp.{Stamp}
-use Rattle.clock.specs.declared.Stamp.TheVariants as stamp
-use Rattle.clock.specs.declared.Pretrigger.{Pretrigger}
-use Rattle.clock.specs.declared.Pretrigger.TheVariants.{Is, Unknown}
+use Rattle.std.specs.Prelude.{None, Option, Some}
+use Rattle.config_rules.specs.declared.LastLines.{LastLines}
+use Rattle.clock.specs.declared.Span.{Span}
 use Rattle.model.specs.declared.Kind.{Kind}
 use Rattle.model.specs.Kinds.{kind_number}
 use Rattle.model.specs.Editions.{year_of}
 use Rattle.model.specs.Samples.{none}
-use Rattle.config_rules.specs.declared.Last.{Last}
-use Rattle.config_rules.specs.declared.Last.TheVariants.{Lines, Absent}
 use Rattle.config_rules.specs.declared.Config.{Config}
 use Rattle.row_places.specs.Rows.{bool_place}
 
@@ -36,22 +33,22 @@ moment_places m =
     ∷ []
 
 -- those of a date line; "there is none" for each where it has no date
-abbrev pub stamp_places : Stamp → List ℤ
-stamp_places (stamp.At m) = moment_places m
-stamp_places stamp.None = none ∷ none ∷ none ∷ none ∷ none ∷ none ∷ none ∷ []
+abbrev pub stamp_places : Option Moment → List ℤ
+stamp_places (Some m) = moment_places m
+stamp_places None = none ∷ none ∷ none ∷ none ∷ none ∷ none ∷ none ∷ []
 
 -- pre-trigger seconds and nanoseconds; "there is none" for each where the time is unknown
-abbrev pub pretrigger_places : Pretrigger → List ℤ
-pretrigger_places (Is p) = p.seconds ∷ pos p.nanoseconds ∷ []
-pretrigger_places Unknown = none ∷ none ∷ []
+abbrev pub pretrigger_places : Option Span → List ℤ
+pretrigger_places (Some p) = p.seconds ∷ pos p.nanoseconds ∷ []
+pretrigger_places None = none ∷ none ∷ []
 
 -- time code, whether the local code is x, local code, quality, leap code; "there is none" for each where the lines are absent
-abbrev pub end_places : Last → List ℤ
-end_places (Lines e) = e.code ∷ bool_place e.x ∷ e.local ∷ pos e.quality ∷ pos e.leap ∷ []
-end_places Absent = none ∷ none ∷ none ∷ none ∷ none ∷ []
+abbrev pub end_places : Option LastLines → List ℤ
+end_places (Some e) = e.code ∷ bool_place e.x ∷ e.local ∷ pos e.quality ∷ pos e.leap ∷ []
+end_places None = none ∷ none ∷ none ∷ none ∷ none ∷ []
 
 -- pre-trigger seconds and nanoseconds, kind
-abbrev pub start_places : Pretrigger → Kind → List ℤ
+abbrev pub start_places : Option Span → Kind → List ℤ
 start_places p k = pretrigger_places p ++ (pos (kind_number k) ∷ [])
 
 -- those; what the last lines say; the edition's year

@@ -1,22 +1,17 @@
 -- NOTHING TO BELIEVE HERE: what each function of the code says, line by line; the law `paper-agrees` (proofs/PaperLaws.antt) of the crate `config` says that all of them together are `read_config`.
 -- A configuration is read line by line. The rule of a line says what the line must be, what it adds to the configuration, and which rule comes next.
+use Rattle.ground.specs.Said.{Said, says, ◌>>=◌, ◌>>◌}
 use Rattle.std.specs.Prelude.{Bool, List, ℕ, ◌+◌, ◌-◌, eqb, ltb, ℤ, set, if◌then◌else◌}
 use Rattle.model.specs.declared.Edition.{Edition}
 use Rattle.model.specs.declared.Edition.TheVariants.{Y2013, Y1999}
 use Rattle.line_fields.specs.declared.Fault.{Fault}
-use Rattle.line_fields.specs.Checks.{fault}
-use Rattle.line_fields.specs.Answers.{fault_of}
 use Rattle.channel_lines.specs.Channels.{channels_line, analog_line, status_line}
-use Rattle.channel_lines.specs.Answers.{channels_of}
 use Rattle.config_lines.specs.Lines.{station_line, frequency_line, rates_line, rate_line, date_line, kind_line, multiplier_line, codes_line, quality_line}
-use Rattle.config_lines.specs.Answers.{station_of, counted_of, dated_of, kinded_of, coded_of, quality_of}
-use Rattle.clock.specs.declared.Stamp.{Stamp}
-use Rattle.clock.specs.declared.Stamp.TheVariants.{None}
-use Rattle.clock.specs.declared.Pretrigger.{Pretrigger}
-use Rattle.clock.specs.declared.Pretrigger.TheVariants.{Unknown}
+use Rattle.std.specs.Prelude.{None, Option, Some}
+use Rattle.clock.specs.declared.Moment.{Moment}
+use Rattle.config_rules.specs.declared.LastLines.{LastLines}
+use Rattle.clock.specs.declared.Span.{Span}
 use Rattle.clock.specs.Spans.{Calendar, pretrigger_of}
-use Rattle.config_rules.specs.declared.Last.{Last}
-use Rattle.config_rules.specs.declared.Last.TheVariants.{Lines, Absent}
 use Rattle.config_rules.specs.declared.Config.{Config}
 use Rattle.config_rules.specs.declared.Rule.{Rule}
 use Rattle.config_rules.specs.declared.Rule.TheVariants.{Station, Counts, Analog, Status, Frequency, RateCount, Rate, First, Trigger, KindWord, Multiplier, Codes, Quality, Done}
@@ -80,7 +75,7 @@ unfoldable pub with_last : ℕ → ℕ → Config → Config
 with_last i v c = with_rows (set c.lasts i v) v c
 
 -- the two date lines, and the time between them
-abbrev pub with_stamps : Stamp → Stamp → Pretrigger → Config → Config
+abbrev pub with_stamps : Option Moment → Option Moment → Option Span → Config → Config
 with_stamps first trigger pretrigger c =
     record {
       layout = c.layout;
@@ -93,7 +88,7 @@ with_stamps first trigger pretrigger c =
     }
 
 -- what the last lines say
-abbrev pub with_end : Last → Config → Config
+abbrev pub with_end : Option LastLines → Config → Config
 with_end e c =
     record {
       layout = c.layout;
@@ -107,39 +102,63 @@ with_end e c =
 
 -- the time codes, zeros for what the line after them says
 unfoldable pub with_codes : ℤ → Bool → ℤ → Config → Config
-with_codes t x m c = with_end (Lines (record { code = t; x = x; local = m; quality = 0; leap = 0 })) c
+with_codes t x m c = with_end (Some (record { code = t; x = x; local = m; quality = 0; leap = 0 })) c
 
 -- the last lines with quality and leap code
-unfoldable pub qualified : ℕ → ℕ → Last → Last
-qualified q p (Lines e) = Lines (record { code = e.code; x = e.x; local = e.local; quality = q; leap = p })
-qualified q p Absent = Absent
+unfoldable pub qualified : ℕ → ℕ → Option LastLines → Option LastLines
+qualified q p (Some e) = Some (record { code = e.code; x = e.x; local = e.local; quality = q; leap = p })
+qualified q p None = None
 
 -- quality and leap code
 unfoldable pub with_quality : ℕ → ℕ → Config → Config
 with_quality q p c = with_end (qualified q p c.last) c
 
--- a line that was judged
-abbrev pub taken : Fault → Rule → Config → Taken
-taken fault rule config = record { fault = fault; rule = rule; config = config }
+-- the rule of the line after one that is fine, and what is shown so far
+abbrev pub taken : Rule → Config → Taken
+taken rule config = record { rule = rule; config = config }
 
 -- a line by its rule
-unfoldable pub take_line : Rule → Config → List ℕ → Taken
-take_line Station c l = let k = station_of (station_line l) in taken k.fault Counts (with_edition k.edition c)
-take_line Counts c l =
-    let k = channels_of (channels_line l) in
-    taken k.fault (after_analog 0 k.analogs k.statuses) (with_counts k.analogs k.statuses c)
-take_line (Analog i) c l = taken (fault_of (analog_line i l)) (after_analog i c.layout.analogs c.layout.statuses) c
-take_line (Status i) c l = taken (fault_of (status_line i l)) (after_status i c.layout.statuses) c
-take_line Frequency c l = taken (fault_of (frequency_line l)) RateCount c
-take_line RateCount c l = let k = counted_of (rates_line l) in taken k.fault (Rate 0) (with_rates k.value c)
-take_line (Rate i) c l = let k = counted_of (rate_line (eqb c.rates 0) c.layout.rows l) in taken k.fault (after_rate i c.rates) (with_last i k.value c)
-take_line First c l = let k = dated_of (date_line l) in taken k.fault Trigger (with_stamps k.stamp None Unknown c)
-take_line Trigger c l = let k = dated_of (date_line l) in taken k.fault KindWord (with_stamps c.first k.stamp (pretrigger_of c.first k.stamp) c)
-take_line KindWord c l = let k = kinded_of (kind_line c.layout.edition l) in taken k.fault Multiplier (with_kind k.kind c)
-take_line Multiplier c l = taken (fault_of (multiplier_line l)) (after_multiplier c.layout.edition) c
-take_line Codes c l = let k = coded_of (codes_line l) in taken k.fault Quality (with_codes k.code k.x k.local c)
-take_line Quality c l = let k = quality_of (quality_line l) in taken k.fault Done (with_quality k.quality k.leap c)
-take_line Done c l = taken (fault 0 0) Done c
+unfoldable pub take_line : Rule → Config → List ℕ → Said Fault Taken
+take_line Station c l = do
+  edition ← station_line l
+  says (taken Counts (with_edition edition c))
+take_line Counts c l = do
+  (a, d) ← channels_line l
+  says (taken (after_analog 0 a d) (with_counts a d c))
+take_line (Analog i) c l = do
+  analog_line i l
+  says (taken (after_analog i c.layout.analogs c.layout.statuses) c)
+take_line (Status i) c l = do
+  status_line i l
+  says (taken (after_status i c.layout.statuses) c)
+take_line Frequency c l = do
+  frequency_line l
+  says (taken RateCount c)
+take_line RateCount c l = do
+  rates ← rates_line l
+  says (taken (Rate 0) (with_rates rates c))
+take_line (Rate i) c l = do
+  last ← rate_line (eqb c.rates 0) c.layout.rows l
+  says (taken (after_rate i c.rates) (with_last i last c))
+take_line First c l = do
+  first ← date_line l
+  says (taken Trigger (with_stamps first None None c))
+take_line Trigger c l = do
+  trigger ← date_line l
+  says (taken KindWord (with_stamps c.first trigger (pretrigger_of c.first trigger) c))
+take_line KindWord c l = do
+  kind ← kind_line c.layout.edition l
+  says (taken Multiplier (with_kind kind c))
+take_line Multiplier c l = do
+  multiplier_line l
+  says (taken (after_multiplier c.layout.edition) c)
+take_line Codes c l = do
+  (code, x, local) ← codes_line l
+  says (taken Quality (with_codes code x local c))
+take_line Quality c l = do
+  (quality, leap) ← quality_line l
+  says (taken Done (with_quality quality leap c))
+take_line Done c l = says (taken Done c)
 
 -- the trigger's line comes after a first sample of the calendar, or of no date
 unfoldable pub Ready : Rule → Config → Type 0

@@ -1,13 +1,11 @@
--- What a configuration shows before any line is read, and beside a refusal; and what it shows with another layout or kind.
+-- What a configuration shows before any line is read; and what it shows with another layout or kind.
 use Rattle.std.specs.Prelude.{replicate}
-use Rattle.clock.specs.declared.Stamp.TheVariants as stamp
-use Rattle.clock.specs.declared.Pretrigger.TheVariants.{Unknown}
+use Rattle.std.specs.Prelude.{None}
 use Rattle.model.specs.declared.Kind.{Kind}
 use Rattle.model.specs.declared.Kind.TheVariants.{Ascii}
 use Rattle.model.specs.declared.Edition.TheVariants.{Y2013}
 use Rattle.model.specs.declared.Layout.{Layout}
 use Rattle.model.specs.Layouts.{in_kind}
-use Rattle.config_rules.specs.declared.Last.TheVariants.{Absent}
 use Rattle.config_rules.specs.declared.Config.{Config}
 
 -- zeros for every number, no dates, and no last lines
@@ -17,10 +15,10 @@ no_config =
       layout = record { analogs = 0; statuses = 0; rows = 0; kind = Ascii; edition = Y2013 };
       rates = 0;
       lasts = replicate 8 0;
-      first = stamp.None;
-      trigger = stamp.None;
-      pretrigger = Unknown;
-      last = Absent;
+      first = None;
+      trigger = None;
+      pretrigger = None;
+      last = None;
     }
 
 -- the same in another layout

@@ -3,10 +3,11 @@
 #![tactic(auto)]
 
 ghost use Rattle.std.specs.Prelude.{◌≡◌};
+ghost use Rattle.ground.specs.Said.{answer_of};
 ghost use Rattle.config_rules.specs.Shown.{with_kind};
 ghost use Rattle.config_rules.specs.Inner.{after_analog, after_status, after_rate, after_multiplier, with_edition, with_last, with_stamps, with_end, qualified, take_line, Ready};
 
-use clock::{Pretrigger, Stamp};
+use clock::{Moment, Span};
 use line_fields::Fault;
 use model::{Edition, Kind, Layout};
 
@@ -20,23 +21,16 @@ pub struct LastLines {
     pub leap: u32,
 }
 
-// The last two lines, or that there are none.
-#[derive(Clone, Copy)]
-pub enum Last {
-    Lines(LastLines),
-    Absent,
-}
-
 // What an accepted configuration shows.
 #[derive(Clone, Copy)]
 pub struct Config {
     pub layout: Layout,
     pub rates: u32,
     pub lasts: [u32; 8],
-    pub first: Stamp,
-    pub trigger: Stamp,
-    pub pretrigger: Pretrigger,
-    pub last: Last,
+    pub first: Option<Moment>,
+    pub trigger: Option<Moment>,
+    pub pretrigger: Option<Span>,
+    pub last: Option<LastLines>,
 }
 
 // The rule of the next line: the i-th channel from 1, the i-th rate from 0; or no line is left.
@@ -58,15 +52,15 @@ pub enum Rule {
     Done,
 }
 
-// A line that was judged: its fault, the rule of the line after it, and what is shown so far.
+// A line that was judged and is fine: the rule of the line after it, and what is shown so far.
 #[derive(Clone, Copy)]
 pub struct Taken {
-    pub fault: Fault,
     pub rule: Rule,
     pub config: Config,
 }
 
 // The rule after that of analog channel i; where i is 0, of the first.
+#[tactic(auto, unfolding(crate::specs::Inner::after_analog))]
 fn after_analog(i: u32, analogs: u32, statuses: u32) -> Rule
     ensures { result ≡ after_analog i analogs statuses }
 {
@@ -77,6 +71,7 @@ fn after_analog(i: u32, analogs: u32, statuses: u32) -> Rule
 }
 
 // The rule after that of status channel i, likewise.
+#[tactic(auto, unfolding(crate::specs::Inner::after_status))]
 fn after_status(i: u32, statuses: u32) -> Rule
     ensures { result ≡ after_status i statuses }
 {
@@ -87,18 +82,18 @@ fn after_status(i: u32, statuses: u32) -> Rule
 }
 
 // The rule after that of rate i, counted from 0; no rates have one line all the same.
+#[tactic(auto, unfolding(crate::specs::Inner::after_rate))]
 fn after_rate(i: u32, rates: u32) -> Rule
     ensures { result ≡ after_rate i rates }
 {
-    if 0 < rates {
-        if i < rates - 1 {
-            return Rule::Rate(i + 1);
-        }
+    if i < rates.saturating_sub(1) {
+        return Rule::Rate(i + 1);
     }
     Rule::First
 }
 
 // The rule after that of the time multiplier, which is the last line of 1999.
+#[tactic(auto, unfolding(crate::specs::Inner::after_multiplier))]
 fn after_multiplier(edition: Edition) -> Rule
     ensures { result ≡ after_multiplier edition }
 {
@@ -109,21 +104,18 @@ fn after_multiplier(edition: Edition) -> Rule
 }
 
 // The configuration with its edition.
+#[tactic(auto, unfolding(crate::specs::Inner::with_edition))]
 fn with_edition(c: Config, edition: Edition) -> Config
     ensures { result ≡ with_edition edition c }
 {
-    let before = c.layout;
-    let kind = before.kind;
     let layout = Layout {
-        analogs: before.analogs,
-        statuses: before.statuses,
-        rows: before.rows,
-        kind: kind,
         edition: edition,
+        ..c.layout
     };
-    let mut e = c;
-    e.layout = layout;
-    e
+    Config {
+        layout: layout,
+        ..c
+    }
 }
 
 // The configuration with the last row of rate i, which is the number of rows so far.
@@ -140,228 +132,193 @@ fn with_last(c: Config, i: u32, last: u32) -> Config
 }
 
 // The configuration with its kind.
+#[tactic(auto, unfolding(crate::specs::Shown::with_kind))]
 fn with_kind(c: Config, kind: Kind) -> Config
     ensures { result ≡ with_kind kind c }
 {
-    let layout = c.layout;
-    let mut e = c;
-    e.layout = layout.in_kind(kind);
-    e
+    Config {
+        layout: c.layout.in_kind(kind),
+        ..c
+    }
 }
 
 // The configuration with its two date lines and the time between them.
-fn with_stamps(c: Config, first: Stamp, trigger: Stamp, pretrigger: Pretrigger) -> Config
+fn with_stamps(
+    c: Config,
+    first: Option<Moment>,
+    trigger: Option<Moment>,
+    pretrigger: Option<Span>,
+) -> Config
     ensures { result ≡ with_stamps first trigger pretrigger c }
 {
-    let layout = c.layout;
-    let lasts = c.lasts;
-    let last = c.last;
     Config {
-        layout: layout,
-        rates: c.rates,
-        lasts: lasts,
         first: first,
         trigger: trigger,
         pretrigger: pretrigger,
-        last: last,
+        ..c
     }
 }
 
 // The configuration with what the last lines say.
-fn with_end(c: Config, last: Last) -> Config
+fn with_end(c: Config, last: Option<LastLines>) -> Config
     ensures { result ≡ with_end last c }
 {
-    let layout = c.layout;
-    let lasts = c.lasts;
-    let first = c.first;
-    let trigger = c.trigger;
-    let pretrigger = c.pretrigger;
-    Config {
-        layout: layout,
-        rates: c.rates,
-        lasts: lasts,
-        first: first,
-        trigger: trigger,
-        pretrigger: pretrigger,
-        last: last,
-    }
+    Config { last: last, ..c }
 }
 
-// The three together.
-fn judged(fault: Fault, rule: Rule, config: Config) -> Taken
-    ensures { result ≡ record { fault = fault; rule = rule; config = config } }
+// The two together.
+fn judged(rule: Rule, config: Config) -> Taken
+    ensures { result ≡ record { rule = rule; config = config } }
 {
     Taken {
-        fault: fault,
         rule: rule,
         config: config,
     }
 }
 
 // Station, device, year.
-fn take_station(line: &[u8], c: Config) -> Taken
-    ensures { result ≡ take_line Rule.Station c line.now }
+#[tactic(auto, unfolding(crate::specs::Inner::take_line))]
+fn take_station(line: &[u8], c: Config) -> Result<Taken, Fault>
+    ensures { result ≡ answer_of (take_line Rule.Station c line.now) }
 {
-    let k = config_lines::station_line(line);
-    let fault = k.fault;
-    let edition = k.edition;
-    judged(fault, Rule::Counts, with_edition(c, edition))
+    let edition = config_lines::station_line(line)?;
+    Ok(judged(Rule::Counts, with_edition(c, edition)))
 }
 
 // TT, A and D: what is left to read follows from them.
-fn take_counts(line: &[u8], c: Config) -> Taken
-    ensures { result ≡ take_line Rule.Counts c line.now }
+#[tactic(auto, unfolding(crate::specs::Inner::take_line, crate::specs::Inner::with_counts))]
+fn take_counts(line: &[u8], c: Config) -> Result<Taken, Fault>
+    ensures { result ≡ answer_of (take_line Rule.Counts c line.now) }
 {
-    let k = channel_lines::channels_line(line);
-    let fault = k.fault;
-    let a = k.analogs as u32;
-    let d = k.statuses as u32;
+    let (analogs, statuses) = channel_lines::channels_line(line)?;
+    let a = analogs as u32;
+    let d = statuses as u32;
     let mut e = c;
     e.layout.analogs = a;
     e.layout.statuses = d;
-    judged(fault, after_analog(0, a, d), e)
+    Ok(judged(after_analog(0, a, d), e))
 }
 
 // The number of rates.
-fn take_rate_count(line: &[u8], c: Config) -> Taken
-    ensures { result ≡ take_line Rule.RateCount c line.now }
+#[tactic(auto, unfolding(crate::specs::Inner::take_line, crate::specs::Inner::with_rates))]
+fn take_rate_count(line: &[u8], c: Config) -> Result<Taken, Fault>
+    ensures { result ≡ answer_of (take_line Rule.RateCount c line.now) }
 {
-    let k = config_lines::rates_line(line);
-    let fault = k.fault;
-    let mut e = c;
-    e.rates = k.value as u32;
-    judged(fault, Rule::Rate(0), e)
+    let rates = config_lines::rates_line(line)?;
+    let e = Config {
+        rates: rates as u32,
+        ..c
+    };
+    Ok(judged(Rule::Rate(0), e))
 }
 
 // A rate and its last row, which must be above the one before it.
-fn take_rate(line: &[u8], c: Config, i: u32) -> Taken
-    ensures { result ≡ take_line (Rule.Rate i) c line.now }
+#[tactic(auto, unfolding(crate::specs::Inner::take_line))]
+fn take_rate(line: &[u8], c: Config, i: u32) -> Result<Taken, Fault>
+    ensures { result ≡ answer_of (take_line (Rule.Rate i) c line.now) }
 {
-    let k = config_lines::rate_line(line, c.rates == 0, c.layout.rows as u64);
-    let fault = k.fault;
-    judged(
-        fault,
-        after_rate(i, c.rates),
-        with_last(c, i, k.value as u32),
-    )
+    let last = config_lines::rate_line(line, c.rates == 0, c.layout.rows as u64)?;
+    Ok(judged(after_rate(i, c.rates), with_last(c, i, last as u32)))
 }
 
 // The first sample's date and time, or that it has none; of the trigger nothing is known yet.
-fn take_first(line: &[u8], c: Config) -> Taken
-    ensures { result ≡ take_line Rule.First c line.now }
+#[tactic(auto, unfolding(crate::specs::Inner::take_line))]
+fn take_first(line: &[u8], c: Config) -> Result<Taken, Fault>
+    ensures { result ≡ answer_of (take_line Rule.First c line.now) }
 {
-    let k = config_lines::date_line(line);
-    let fault = k.fault;
-    let first = k.stamp;
-    judged(
-        fault,
-        Rule::Trigger,
-        with_stamps(c, first, Stamp::None, Pretrigger::Unknown),
-    )
+    let first = config_lines::date_line(line)?;
+    Ok(judged(Rule::Trigger, with_stamps(c, first, None, None)))
 }
 
 // The trigger's date and time, or that it has none, and the time before it.
-fn take_trigger(line: &[u8], c: Config) -> Taken
+#[tactic(auto, unfolding(crate::specs::Inner::take_line))]
+fn take_trigger(line: &[u8], c: Config) -> Result<Taken, Fault>
     requires { Ready Rule.Trigger c }
-    ensures { result ≡ take_line Rule.Trigger c line.now }
+    ensures { result ≡ answer_of (take_line Rule.Trigger c line.now) }
 {
-    let k = config_lines::date_line(line);
-    let fault = k.fault;
-    let trigger = k.stamp;
-    let first = c.first;
-    let pretrigger = clock::pretrigger_of(first, trigger);
-    judged(
-        fault,
-        Rule::KindWord,
-        with_stamps(c, first, trigger, pretrigger),
-    )
+    let trigger = config_lines::date_line(line)?;
+    let pretrigger = clock::pretrigger_of(c.first, trigger);
+    Ok(judged(Rule::KindWord, with_stamps(c, c.first, trigger, pretrigger)))
 }
 
 // The kind's word.
-fn take_kind(line: &[u8], c: Config) -> Taken
-    ensures { result ≡ take_line Rule.KindWord c line.now }
+#[tactic(auto, unfolding(crate::specs::Inner::take_line))]
+fn take_kind(line: &[u8], c: Config) -> Result<Taken, Fault>
+    ensures { result ≡ answer_of (take_line Rule.KindWord c line.now) }
 {
-    let layout = c.layout;
-    let edition = layout.edition;
-    let k = config_lines::kind_line(line, edition);
-    let fault = k.fault;
-    let kind = k.kind;
-    judged(fault, Rule::Multiplier, with_kind(c, kind))
+    let kind = config_lines::kind_line(line, c.layout.edition)?;
+    Ok(judged(Rule::Multiplier, with_kind(c, kind)))
 }
 
 // The time multiplier.
-fn take_multiplier(line: &[u8], c: Config) -> Taken
-    ensures { result ≡ take_line Rule.Multiplier c line.now }
+#[tactic(auto, unfolding(crate::specs::Inner::take_line))]
+fn take_multiplier(line: &[u8], c: Config) -> Result<Taken, Fault>
+    ensures { result ≡ answer_of (take_line Rule.Multiplier c line.now) }
 {
-    let fault = config_lines::multiplier_line(line);
-    let layout = c.layout;
-    let edition = layout.edition;
-    judged(fault, after_multiplier(edition), c)
+    config_lines::multiplier_line(line)?;
+    Ok(judged(after_multiplier(c.layout.edition), c))
 }
 
 // The two time codes.
-fn take_codes(line: &[u8], c: Config) -> Taken
-    ensures { result ≡ take_line Rule.Codes c line.now }
+#[tactic(auto, unfolding(crate::specs::Inner::take_line, crate::specs::Inner::with_codes))]
+fn take_codes(line: &[u8], c: Config) -> Result<Taken, Fault>
+    ensures { result ≡ answer_of (take_line Rule.Codes c line.now) }
 {
-    let k = config_lines::codes_line(line);
-    let fault = k.fault;
+    let (code, x, local) = config_lines::codes_line(line)?;
     let lines = LastLines {
-        code: k.code,
-        x: k.x,
-        local: k.local,
+        code: code,
+        x: x,
+        local: local,
         quality: 0,
         leap: 0,
     };
-    let last = Last::Lines(lines);
-    judged(fault, Rule::Quality, with_end(c, last))
+    Ok(judged(Rule::Quality, with_end(c, Some(lines))))
 }
 
 // The last lines with quality and leap second code.
-fn qualified(last: Last, quality: u32, leap: u32) -> Last
+#[tactic(auto, unfolding(crate::specs::Inner::qualified))]
+fn qualified(last: Option<LastLines>, quality: u32, leap: u32) -> Option<LastLines>
     ensures { result ≡ qualified quality leap last }
 {
-    match last {
-        Last::Lines(lines) => Last::Lines(LastLines {
-            code: lines.code,
-            x: lines.x,
-            local: lines.local,
-            quality: quality,
-            leap: leap,
-        }),
-        Last::Absent => Last::Absent,
-    }
+    let lines = last?;
+    Some(LastLines {
+        quality: quality,
+        leap: leap,
+        ..lines
+    })
 }
 
 // Quality and leap second code, on the last line.
-fn take_quality(line: &[u8], c: Config) -> Taken
-    ensures { result ≡ take_line Rule.Quality c line.now }
+#[tactic(auto, unfolding(crate::specs::Inner::take_line, crate::specs::Inner::with_quality))]
+fn take_quality(line: &[u8], c: Config) -> Result<Taken, Fault>
+    ensures { result ≡ answer_of (take_line Rule.Quality c line.now) }
 {
-    let k = config_lines::quality_line(line);
-    let fault = k.fault;
-    let codes = c.last;
-    let last = qualified(codes, k.quality as u32, k.leap as u32);
-    judged(fault, Rule::Done, with_end(c, last))
+    let (quality, leap) = config_lines::quality_line(line)?;
+    let last = qualified(c.last, quality as u32, leap as u32);
+    Ok(judged(Rule::Done, with_end(c, last)))
 }
 
-// A line by its rule. What is shown beside a fault is shown to nobody.
-pub fn take_line(line: &[u8], rule: Rule, c: Config) -> Taken
+// A line by its rule: what is shown of it and the lines before it, or its fault.
+#[tactic(auto, unfolding(crate::specs::Inner::take_line))]
+pub fn take_line(line: &[u8], rule: Rule, c: Config) -> Result<Taken, Fault>
     requires { Ready rule c }
-    ensures { result ≡ take_line rule c line.now }
+    ensures { result ≡ answer_of (take_line rule c line.now) }
 {
     match rule {
         Rule::Station => take_station(line, c),
         Rule::Counts => take_counts(line, c),
-        Rule::Analog(i) => judged(
-            channel_lines::analog_line(line, i as u64),
-            after_analog(i, c.layout.analogs, c.layout.statuses),
-            c,
-        ),
-        Rule::Status(i) => judged(
-            channel_lines::status_line(line, i as u64),
-            after_status(i, c.layout.statuses),
-            c,
-        ),
-        Rule::Frequency => judged(config_lines::frequency_line(line), Rule::RateCount, c),
+        Rule::Analog(i) => {
+            channel_lines::analog_line(line, i as u64)?;
+            Ok(judged(after_analog(i, c.layout.analogs, c.layout.statuses), c))
+        }
+        Rule::Status(i) => {
+            channel_lines::status_line(line, i as u64)?;
+            Ok(judged(after_status(i, c.layout.statuses), c))
+        }
+        Rule::Frequency => {
+            config_lines::frequency_line(line)?;
+            Ok(judged(Rule::RateCount, c))
+        }
         Rule::RateCount => take_rate_count(line, c),
         Rule::Rate(i) => take_rate(line, c, i),
         Rule::First => take_first(line, c),
@@ -370,13 +327,6 @@ pub fn take_line(line: &[u8], rule: Rule, c: Config) -> Taken
         Rule::Multiplier => take_multiplier(line, c),
         Rule::Codes => take_codes(line, c),
         Rule::Quality => take_quality(line, c),
-        Rule::Done => judged(
-            Fault {
-                number: 0,
-                field: 0,
-            },
-            Rule::Done,
-            c,
-        ),
+        Rule::Done => Ok(judged(Rule::Done, c)),
     }
 }

@@ -15,7 +15,7 @@ use Rattle.ground.proofs.Every.{and_split}
 use Rattle.ground.proofs.SaidLaws.{must-told}
 use Rattle.model.specs.declared.Layout.{Layout}
 use Rattle.model.specs.declared.Row.{Row}
-use Rattle.model.specs.declared.Answer.TheVariants.{Yes}
+use Rattle.std.proofs.Common.{Ok}
 use Rattle.model.specs.Editions.{has_kind}
 use Rattle.model.specs.Layouts.{is_sized, Sized}
 use Rattle.model.specs.Refusals.{refused}
@@ -30,7 +30,7 @@ row_told l n e =
     let s = and_split (leb 1 n) (leb n l.rows) e in
     (leb-true 1 n s.0, leb-true n l.rows s.1)
 
-pub accepted-fine : (l : Layout) (s : List ℕ) → check_file l s ≡ Yes → (is_sized l ≡ true) × (file_fine l s ≡ says tt)
+pub accepted-fine : (l : Layout) (s : List ℕ) → check_file l s ≡ Ok tt → (is_sized l ≡ true) × (file_fine l s ≡ says tt)
 unfolding check_file
 accepted-fine l s e = must-told (is_sized l) (refused 10 0 0) (file_fine l s) tt (yes-told _ e)
 

@@ -1,19 +1,17 @@
 -- Data files of every kind: what each call answers, in the paper's order of refusals.
 use Rattle.std.specs.Prelude.{Bool, ◌&&◌, List, [], ◌++◌, ℕ, ◌+◌, ◌-◌, eqb, leb, length}
-use Rattle.ground.specs.Said.{Said, says, refuses, ◌>>◌, must}
+use Rattle.ground.specs.Said.{Said, says, ◌>>◌, must, answer_of}
 use Rattle.ground.specs.Tables.{cat}
 use Rattle.model.specs.declared.Layout.{Layout}
 use Rattle.model.specs.declared.Row.{Row}
 use Rattle.model.specs.declared.Refusal.{Refusal}
-use Rattle.model.specs.declared.Answer.{Answer}
-use Rattle.model.specs.declared.Answer.TheVariants as answer
+use Rattle.std.specs.Prelude.{Result}
 use Rattle.model.specs.Layouts.{is_sized}
-use Rattle.model.specs.Refusals.{refused, answer_of}
-use Rattle.model.specs.Rows.{zero_row, misfit}
+use Rattle.model.specs.Refusals.{refused}
+use Rattle.model.specs.Rows.{misfit}
 use Rattle.binary_file.specs.Files as binary_file
 use Rattle.ascii_file.specs.Files as ascii_file
 use Rattle.row_bytes.specs.Rows.{by_kind, bytes_of}
-use Rattle.data.specs.declared.RowAnswer.{RowAnswer}
 
 -- the file is fine
 unfoldable pub file_fine : Layout → List ℕ → Said Refusal (Unit {0})
@@ -32,19 +30,14 @@ unfoldable pub misfit_of : Layout → Row → ℕ
 misfit_of l r = misfit l r.samples
 
 -- whether a data file is accepted
-unfoldable pub check_file : Layout → List ℕ → Answer
+unfoldable pub check_file : Layout → List ℕ → Result (Unit {0}) Refusal
 check_file l s = answer_of (do
   must (is_sized l) (refused 10 0 0)
   file_fine l s)
 
--- the row, or the refusal and zeros beside it
-abbrev pub row_answer : Said Refusal Row → RowAnswer
-row_answer (says r) = record { answer = answer.Yes; row = r }
-row_answer (refuses r) = record { answer = answer.No r; row = zero_row }
-
 -- row n of a data file
-unfoldable pub show_row : Layout → List ℕ → ℕ → RowAnswer
-show_row l s n = row_answer (do
+unfoldable pub show_row : Layout → List ℕ → ℕ → Result Row Refusal
+show_row l s n = answer_of (do
   must (is_sized l) (refused 10 0 0)
   must (has_row l n) (refused 15 0 0)
   file_fine l s

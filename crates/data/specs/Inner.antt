@@ -1,12 +1,11 @@
 -- NOTHING TO BELIEVE HERE: what the functions of one kind say; `show_row` is said without it.
-use Rattle.ground.specs.Said.{Said, says, ◌>>◌}
+use Rattle.std.specs.Prelude.{Result}
+use Rattle.ground.specs.Said.{Said, says, ◌>>◌, answer_of}
 use Rattle.model.specs.declared.Row.{Row}
 use Rattle.model.specs.declared.Refusal.{Refusal}
-use Rattle.data.specs.declared.RowAnswer.{RowAnswer}
-use Rattle.data.specs.Files.{row_answer}
 
 -- the row of a file, or what its check refuses
-abbrev pub shown : Said Refusal (Unit {0}) → Row → RowAnswer
-shown fine r = row_answer (do
+abbrev pub shown : Said Refusal (Unit {0}) → Row → Result Row Refusal
+shown fine r = answer_of (do
   fine
   says r)

@@ -3,24 +3,18 @@
 #![tactic(auto)]
 
 ghost use Rattle.std.specs.Prelude.{◌≡◌, ◌<◌, length};
-ghost use Rattle.ground.specs.Said.{refuses, over};
+ghost use Rattle.ground.specs.Said.{over};
 ghost use Rattle.model.specs.Layouts.{Sized};
 ghost use Rattle.model.specs.Refusals.{written_of};
 ghost use Rattle.binary_file.specs.Files.{check_binary, binary_row};
 ghost use Rattle.ascii_file.specs.Files.{check_text, text_row};
-ghost use Rattle.data.specs.Files.{has_row, check_file, row_answer, show_row, write_said};
+ghost use Rattle.data.specs.Files.{has_row, check_file, show_row, write_said};
 ghost use Rattle.data.specs.Inner.{shown};
 
-use model::{Answer, Kind, Layout, Refusal, Row, Written};
-
-// A row, or a refusal and the row with every place zero.
-#[derive(Clone, Copy)]
-pub struct RowAnswer {
-    pub answer: Answer,
-    pub row: Row,
-}
+use model::{Kind, Layout, Refusal, Row};
 
 // Whether there is a row n.
+#[tactic(auto, unfolding(crate::specs::Files::has_row))]
 pub fn has_row(layout: Layout, n: u32) -> bool
     ensures { result ≡ has_row layout n }
 {
@@ -31,11 +25,12 @@ pub fn has_row(layout: Layout, n: u32) -> bool
 }
 
 // Whether a data file is accepted, or the first refusal.
-pub fn check(layout: Layout, data: &[u8]) -> Answer
+#[tactic(auto, unfolding(crate::specs::Files::check_file, crate::specs::Files::file_fine))]
+pub fn check(layout: Layout, data: &[u8]) -> Result<(), Refusal>
     ensures { result ≡ check_file layout «data».now }
 {
     if !layout.is_sized() {
-        return Answer::No(model::refused(10, 0, 0));
+        return Err(model::refused(10, 0, 0));
     }
     let kind = layout.kind;
     match kind {
@@ -44,62 +39,34 @@ pub fn check(layout: Layout, data: &[u8]) -> Answer
     }
 }
 
-// A refusal, and the row with every place zero beside it.
-fn not_shown(refusal: Refusal) -> RowAnswer
-    ensures { result ≡ row_answer (refuses refusal) }
-{
-    let row = Row::zero();
-    RowAnswer {
-        answer: Answer::No(refusal),
-        row: row,
-    }
-}
-
 // Row i of a file of text, counted from 0.
-fn show_text(layout: Layout, data: &[u8], i: u32) -> RowAnswer
+fn show_text(layout: Layout, data: &[u8], i: u32) -> Result<Row, Refusal>
     requires { (Sized layout) × (i < layout.rows) }
     ensures { result ≡ shown (check_text layout «data».now) (text_row layout i «data».now) }
 {
-    let answer = ascii_file::check_text(layout, data);
-    match answer {
-        Answer::Yes => {
-            let row = ascii_file::row_at(layout, data, i);
-            RowAnswer {
-                answer: Answer::Yes,
-                row: row,
-            }
-        }
-        Answer::No(refusal) => not_shown(refusal),
-    }
+    ascii_file::check_text(layout, data)?;
+    Ok(ascii_file::row_at(layout, data, i))
 }
 
 // Row i of a file of the binary kinds, counted from 0.
-fn show_binary(layout: Layout, data: &[u8], i: u32) -> RowAnswer
+fn show_binary(layout: Layout, data: &[u8], i: u32) -> Result<Row, Refusal>
     requires { (Sized layout) × (i < layout.rows) }
     ensures { result ≡ shown (check_binary layout «data».now) (binary_row layout i «data».now) }
 {
-    let answer = binary_file::check_binary(layout, data);
-    match answer {
-        Answer::Yes => {
-            let row = binary_file::row_at(layout, data, i);
-            RowAnswer {
-                answer: Answer::Yes,
-                row: row,
-            }
-        }
-        Answer::No(refusal) => not_shown(refusal),
-    }
+    binary_file::check_binary(layout, data)?;
+    Ok(binary_file::row_at(layout, data, i))
 }
 
 // Row n of a data file, or the first refusal.
-pub fn show_row(layout: Layout, data: &[u8], n: u32) -> RowAnswer
+#[tactic(auto, unfolding(crate::specs::Files::show_row, crate::specs::Files::file_fine, crate::specs::Files::row_at))]
+pub fn show_row(layout: Layout, data: &[u8], n: u32) -> Result<Row, Refusal>
     ensures { result ≡ show_row layout «data».now n }
 {
     if !layout.is_sized() {
-        return not_shown(model::refused(10, 0, 0));
+        return Err(model::refused(10, 0, 0));
     }
     if !has_row(layout, n) {
-        return not_shown(model::refused(15, 0, 0));
+        return Err(model::refused(15, 0, 0));
     }
     let kind = layout.kind;
     match kind {
@@ -109,14 +76,15 @@ pub fn show_row(layout: Layout, data: &[u8], n: u32) -> RowAnswer
 }
 
 // How many bytes row n takes, or why it is not written where there is room for so many.
-fn may_write(layout: Layout, n: u32, row: Row, room: usize) -> Written
+#[tactic(auto, unfolding(crate::specs::Files::write_said, crate::specs::Files::misfit_of))]
+fn may_write(layout: Layout, n: u32, row: Row, room: usize) -> Result<usize, Refusal>
     ensures { result ≡ written_of (write_said layout n row room) }
 {
     if !layout.is_sized() {
-        return Written::No(model::refused(10, 0, 0));
+        return Err(model::refused(10, 0, 0));
     }
     if !has_row(layout, n) {
-        return Written::No(model::refused(15, 0, 0));
+        return Err(model::refused(15, 0, 0));
     }
     let a = layout.analogs as usize;
     let samples = row.samples;
@@ -124,26 +92,22 @@ fn may_write(layout: Layout, n: u32, row: Row, room: usize) -> Written
     let field = 3 + bad as u32;
     let size = row_bytes::row_length(layout, n, row);
     if bad != a {
-        return Written::No(model::refused(16, n, field));
+        return Err(model::refused(16, n, field));
     }
     if room < size {
-        return Written::No(model::refused(17, 0, 0));
+        return Err(model::refused(17, 0, 0));
     }
-    Written::Bytes(size)
+    Ok(size)
 }
 
 // Row n is written at the front of `out`, or nothing is.
-pub fn write_row(layout: Layout, n: u32, row: Row, out: &mut [u8]) -> Written
+#[tactic(auto, unfolding(crate::specs::Files::misfit_of))]
+pub fn write_row(layout: Layout, n: u32, row: Row, out: &mut [u8]) -> Result<usize, Refusal>
     ensures value { result ≡ written_of (write_said layout n row (length out.old)) }
     ensures out_after { out.new ≡ over (write_said layout n row (length out.old)) out.old }
 {
     let room = out.len();
-    let answer = may_write(layout, n, row, room);
-    match answer {
-        Written::Bytes(size) => {
-            row_bytes::put_row(layout, n, row, &mut out[..size]);
-            answer
-        }
-        Written::No(_) => answer,
-    }
+    let size = may_write(layout, n, row, room)?;
+    row_bytes::put_row(layout, n, row, &mut out[..size]);
+    Ok(size)
 }

@@ -30,15 +30,10 @@ use Rattle.clock.specs.Dates.{valid_date}
 use Rattle.clock.specs.Times.{valid_time}
 use Rattle.clock.specs.declared.Span.{Span}
 use Rattle.clock.specs.declared.Moment.{Moment}
-use Rattle.clock.specs.declared.Stamp.{Stamp}
-use Rattle.clock.specs.declared.Stamp.TheVariants.{At, None}
-use Rattle.clock.specs.declared.Pretrigger.{Pretrigger}
-use Rattle.clock.specs.declared.Pretrigger.TheVariants.{Is, Unknown}
+use Rattle.std.proofs.Common.{None, Option, Some}
 use Rattle.clock.specs.Spans.{span_of, pre_trigger, Calendar, pretrigger_of}
 use Rattle.clock.proofs.SpanLaws.{second-size, less_one}
 use Rattle.config_rules.specs.declared.LastLines.{LastLines}
-use Rattle.config_rules.specs.declared.Last.{Last}
-use Rattle.config_rules.specs.declared.Last.TheVariants.{Lines, Absent}
 use Rattle.config_rules.specs.declared.Config.{Config}
 use Rattle.row_places.specs.Rows.{bool_place}
 use Rattle.config_places.specs.Configs.{count_places, last_places, moment_places, stamp_places, pretrigger_places, end_places, other_places, config_places}
@@ -108,7 +103,7 @@ all_there (z ∷ zs) h zero e =
 all_there (z ∷ zs) h (suc j) e = all_there zs (and_split (not (is_none z)) (every (λ z. not (is_none z)) zs) h).1 j e
 
 -- the places of the last lines
-lines-there : (e : Edition) (x : LastLines) (t : List ℕ) → EndLines e (Lines x) t → AllThere (end_places (Lines x))
+lines-there : (e : Edition) (x : LastLines) (t : List ℕ) → EndLines e (Some x) t → AllThere (end_places (Some x))
 unfolding is_none is_lowest
 lines-there Y1999 x t (q, r) = clash (cc)
 lines-there Y2013 x t (y, l, m, q, codes, quality, r) =
@@ -134,34 +129,34 @@ behind-none n low high P zs ys e h j x y =
     let q : get_or (zs ++ ys) j (pos 0) ≡ get_or ys (j - n) (pos 0) = ap (λ (k : ℕ). get_or (zs ++ ys) k (pos 0)) (sym p) ∙ get_or-append-add zs ys (j - n) (pos 0) in
     rw q (h (j - n) (omega arith) (omega arith))
 
-end_none : (e : Edition) (v : Last) (t : List ℕ) → EndLines e v t → NoneIn 0 4 (v ≡ Absent) (end_places v)
-end_none e (Lines x) t w j h k = (λ q. absurd (all_there (end_places (Lines x)) (lines-there e x t w) j q), λ q. clash (cc))
-end_none e Absent t w j h k = (λ q. refl, λ q. get_or-replicate 5 j none (pos 0) (omega arith))
+end_none : (e : Edition) (v : Option LastLines) (t : List ℕ) → EndLines e v t → NoneIn 0 4 (v ≡ None) (end_places v)
+end_none e (Some x) t w j h k = (λ q. absurd (all_there (end_places (Some x)) (lines-there e x t w) j q), λ q. clash (cc))
+end_none e None t w j h k = (λ q. refl, λ q. get_or-replicate 5 j none (pos 0) (omega arith))
 
 moment-there : (m : Moment) → AllThere (moment_places m)
 unfolding is_none is_lowest
 moment-there m = refl
 
-stamp-none : (s : Stamp) → NoneIn 0 6 (s ≡ None) (stamp_places s)
-stamp-none (At m) j h k = (λ q. absurd (all_there (moment_places m) (moment-there m) j q), λ q. clash (cc))
+stamp-none : (s : Option Moment) → NoneIn 0 6 (s ≡ None) (stamp_places s)
+stamp-none (Some m) j h k = (λ q. absurd (all_there (moment_places m) (moment-there m) j q), λ q. clash (cc))
 stamp-none None j h k = (λ q. refl, λ q. get_or-replicate 7 j none (pos 0) (omega arith))
 
-span-there : (d : Span) → There d.seconds → AllThere (pretrigger_places (Is d))
+span-there : (d : Span) → There d.seconds → AllThere (pretrigger_places (Some d))
 unfolding is_none is_lowest
 span-there d h = rw h
 
 -- the time between two stamps is few seconds, or unknown
-pretrigger-there : (f t : Stamp) → Calendar f → Calendar t → (d : Span) → pretrigger_of f t ≡ Is d → There d.seconds
+pretrigger-there : (f t : Option Moment) → Calendar f → Calendar t → (d : Span) → pretrigger_of f t ≡ Some d → There d.seconds
 unfolding pretrigger_of
-pretrigger-there (At a) (At b) h g d e =
+pretrigger-there (Some a) (Some b) h g d e =
     let q : pre_trigger a.date a.time b.date b.time ≡ d = cc in
     rw (← q) (pre-there a.date a.time b.date b.time h.0 h.1 g.0 g.1)
-pretrigger-there (At a) None h g d e = clash (cc)
+pretrigger-there (Some a) None h g d e = clash (cc)
 pretrigger-there None b h g d e = clash (cc)
 
-pretrigger-none : (f t : Stamp) → Calendar f → Calendar t → (p : Pretrigger) → pretrigger_of f t ≡ p → NoneIn 0 1 (p ≡ Unknown) (pretrigger_places p)
-pretrigger-none f t h g (Is d) e j x y = (λ q. absurd (all_there (pretrigger_places (Is d)) (span-there d (pretrigger-there f t h g d e)) j q), λ q. clash (cc))
-pretrigger-none f t h g Unknown e j x y = (λ q. refl, λ q. get_or-replicate 2 j none (pos 0) (omega arith))
+pretrigger-none : (f t : Option Moment) → Calendar f → Calendar t → (p : Option Span) → pretrigger_of f t ≡ p → NoneIn 0 1 (p ≡ None) (pretrigger_places p)
+pretrigger-none f t h g (Some d) e j x y = (λ q. absurd (all_there (pretrigger_places (Some d)) (span-there d (pretrigger-there f t h g d e)) j q), λ q. clash (cc))
+pretrigger-none f t h g None e j x y = (λ q. refl, λ q. get_or-replicate 2 j none (pos 0) (omega arith))
 
 -- WHICH OF THE 35 PLACES ARE "there is none": those of a date line exactly where it has no date, those of the pre-trigger time where it is unknown, those of the last lines where these are absent
 pub record NoneShown (c : Config) (zs : List ℤ) : Type 0 where
@@ -169,9 +164,9 @@ pub record NoneShown (c : Config) (zs : List ℤ) : Type 0 where
   pub counts : NoneIn 0 11 ⊥ zs
   pub first : NoneIn 12 18 (c.first ≡ None) zs
   pub trigger : NoneIn 19 25 (c.trigger ≡ None) zs
-  pub pretrigger : NoneIn 26 27 (c.pretrigger ≡ Unknown) zs
+  pub pretrigger : NoneIn 26 27 (c.pretrigger ≡ None) zs
   pub kind : NoneIn 28 28 ⊥ zs
-  pub last : NoneIn 29 33 (c.last ≡ Absent) zs
+  pub last : NoneIn 29 33 (c.last ≡ None) zs
   pub edition : NoneIn 34 34 ⊥ zs
 
 -- the places of a configuration, one group behind the other
@@ -229,13 +224,13 @@ module _ (s : List ℕ) (c : Config) (w : Configuration s c) where
     trigger = behind-none 12 7 13 (c.trigger ≡ None) numbers (stamp_places c.first ++ from_trigger) refl
         (behind-none 7 0 6 (c.trigger ≡ None) (stamp_places c.first) from_trigger (stamp-places c.first)
         (here-none 6 (c.trigger ≡ None) (stamp_places c.trigger) from_pretrigger (stamp-places c.trigger) (stamp-none c.trigger)));
-    pretrigger = past-stamps 0 1 (c.pretrigger ≡ Unknown) (here-none 1 (c.pretrigger ≡ Unknown) (pretrigger_places c.pretrigger) from_kind (pretrigger-places c.pretrigger)
+    pretrigger = past-stamps 0 1 (c.pretrigger ≡ None) (here-none 1 (c.pretrigger ≡ None) (pretrigger_places c.pretrigger) from_kind (pretrigger-places c.pretrigger)
         (pretrigger-none c.first c.trigger (stamp-calendar c.first w.l7 w.first.is) (stamp-calendar c.trigger w.m7 w.trigger.is) c.pretrigger pretrigger-is));
     kind = past-stamps 2 2 ⊥ (behind-none 2 0 0 ⊥ (pretrigger_places c.pretrigger) from_kind (pretrigger-places c.pretrigger)
         (here-none 0 ⊥ (pos (kind_number c.layout.kind) ∷ []) from_last refl (values-none 0 (pos (kind_number c.layout.kind) ∷ []) kind-there)));
-    last = past-stamps 3 7 (c.last ≡ Absent) (behind-none 2 1 5 (c.last ≡ Absent) (pretrigger_places c.pretrigger) from_kind (pretrigger-places c.pretrigger)
-        (behind-none 1 0 4 (c.last ≡ Absent) (pos (kind_number c.layout.kind) ∷ []) from_last refl
-        (here-none 4 (c.last ≡ Absent) (end_places c.last) year (end-places c.last) (end_none c.layout.edition c.last w.t10 w.last))));
+    last = past-stamps 3 7 (c.last ≡ None) (behind-none 2 1 5 (c.last ≡ None) (pretrigger_places c.pretrigger) from_kind (pretrigger-places c.pretrigger)
+        (behind-none 1 0 4 (c.last ≡ None) (pos (kind_number c.layout.kind) ∷ []) from_last refl
+        (here-none 4 (c.last ≡ None) (end_places c.last) year (end-places c.last) (end_none c.layout.edition c.last w.t10 w.last))));
     edition = past-stamps 8 8 ⊥ (behind-none 2 6 6 ⊥ (pretrigger_places c.pretrigger) from_kind (pretrigger-places c.pretrigger)
         (behind-none 1 5 5 ⊥ (pos (kind_number c.layout.kind) ∷ []) from_last refl
         (behind-none 5 0 0 ⊥ (end_places c.last) year (end-places c.last) (values-none 0 year year-there))));

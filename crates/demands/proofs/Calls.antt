@@ -2,7 +2,7 @@
 -- these are theorems on the definitions that its contracts cite.
 --     Ends, Lent              what a lent buffer holds at the end: a refusal leaves it as it was, a yes writes what it says and nothing past it
 --     refused-unchanged       so of every call that writes
---     zeros-beside            a refusal has zeros for row and length beside it, and a configuration of zeros, no dates and no last lines
+--     zeros-beside            beside a refusal there is no row and no configuration, and zeros in the exported answer alone
 --     alike, no-such-row      what the check of a file refuses, showing a row of it, the length question and the change refuse alike; 15 comes before the file
 --     as-the-question         the change refuses as the length question does, or else with 17
 --     never-17                the length question never says 17
@@ -21,28 +21,25 @@ use borrow.Author.Tests.{eqb-true, leb-true}
 use lib.Dec.{lit≤, eqb, leb}
 use lib.IntN.{ℤ}
 use lib.ListN.{length, take, drop}
-use Rattle.ground.specs.Said.{Said, says, refuses, ◌>>=◌, ◌>>◌, must, over}
+use Rattle.ground.specs.Said.{Said, says, refuses, ◌>>=◌, ◌>>◌, must, over, answer_of, answer_said}
 use Rattle.ground.proofs.Cases.{on_test, clash}
 use Rattle.ground.proofs.SaidLaws.{must-told, must-holds, bind-told, no_byte, only-told}
 use Rattle.ground.proofs.RefusalLaws.{RefusesOnly, only-must, only_then, only-bind, only_wider, only-given}
 use Rattle.model.specs.declared.Kind.{Kind}
-use Rattle.model.specs.declared.KindNo.{KindNo}
-use Rattle.model.specs.declared.KindNo.TheVariants as number
+use Rattle.std.proofs.Common.{Err, None, Option, Some, Result, Ok}
 use Rattle.model.specs.declared.Layout.{Layout}
 use Rattle.model.specs.declared.Row.{Row}
 use Rattle.model.specs.declared.Refusal.{Refusal}
-use Rattle.model.specs.declared.Answer.TheVariants.{No}
 use Rattle.model.specs.Kinds.{kind_of}
 use Rattle.model.specs.Editions.{has_kind}
 use Rattle.model.specs.Layouts.{is_sized, in_kind}
-use Rattle.model.specs.Refusals.{refused, answer_of, answer_said}
-use Rattle.model.specs.Rows.{zero_row}
+use Rattle.model.specs.Refusals.{refused}
 use Rattle.model.proofs.AnswerLaws.{no-told}
 use Rattle.config_rules.specs.declared.Config.{Config}
 use Rattle.config.specs.Reading.{said_of}
-use Rattle.config.specs.Config.{no_config, config_answer, configuration, read_config}
+use Rattle.config.specs.Config.{configuration, read_config}
 use Rattle.row_bytes.specs.Rows.{bytes_of}
-use Rattle.data.specs.Files.{file_fine, row_at, has_row, misfit_of, check_file, row_answer, show_row, write_said}
+use Rattle.data.specs.Files.{file_fine, row_at, has_row, misfit_of, check_file, show_row, write_said}
 use Rattle.data.proofs.Laws.{row_told, writable}
 use Rattle.change.specs.Change.{change_said}
 use Rattle.change_length.specs.Needed.{fit_rows, changed, bytes_needed}
@@ -52,13 +49,10 @@ use Rattle.config_places.specs.Configs.{config_places}
 use Rattle.config_places.proofs.ConfigLaws.{config-places}
 use Rattle.row_places.proofs.RowLaws.{row-places, places-back}
 use Rattle.reasons.specs.Reasons.{reason_of, text_said, reason_said}
-use Rattle.answers.specs.declared.LayoutNo.{LayoutNo}
-use Rattle.answers.specs.declared.LayoutNo.TheVariants as layout
 use Rattle.answers.specs.declared.zl_answer.{zl_answer}
 use Rattle.answers.specs.Answers.{told, told_written, told_shown, kind_said, layout_of, layout_said, placed}
-use Rattle.config.specs.Said.{config_said}
 use Rattle.calls_config.specs.Calls.{config_call}
-use Rattle.calls_data.specs.Calls.{check_call, row_said, row_call, row_asked, write_call}
+use Rattle.calls_data.specs.Calls.{check_call, row_call, row_asked, write_call}
 use Rattle.calls_data.specs.Inner.{row_in, write_in}
 use Rattle.calls_change.specs.Calls.{length_call, change_call}
 use Rattle.calls_change.specs.Inner.{needed_in, change_in}
@@ -111,11 +105,11 @@ reason-within n = bind-within (reason_of n) text_said (λ text. placed-within (l
 
 config-within : (s : List ℕ) → Within (config_call s)
 unfolding config_call
-config-within s = bind-within (config_said (read_config s)) (λ c. placed 35 (config_places c)) (λ c. placed-within 35 (config_places c) (config-places c))
+config-within s = bind-within (answer_said (read_config s)) (λ c. placed 35 (config_places c)) (λ c. placed-within 35 (config_places c) (config-places c))
 
 row_within : (l : Layout) (s : List ℕ) (n : ℕ) → Within (row_in l s n)
 unfolding row_in
-row_within l s n = bind-within (row_said (show_row l s n)) (λ r. placed (places_of l) (row_places l r)) (λ r. placed-within (places_of l) (row_places l r) (row-places l r))
+row_within l s n = bind-within (answer_said (show_row l s n)) (λ r. placed (places_of l) (row_places l r)) (λ r. placed-within (places_of l) (row_places l r) (row-places l r))
 
 row-call-within : (a d rows kind edition : ℕ) (s : List ℕ) (n : ℕ) → Within (row_call a d rows kind edition s n)
 unfolding row_call row_in
@@ -139,7 +133,7 @@ rewrite-within s k room new e = ((rewritten-exactly s k room new).0 e).5
 write-config-within : (s : List ℕ) (kind : ℕ) → Within (write_config_call s kind)
 unfolding write_config_call
 write-config-within s kind =
-    bind-within (config_said (read_config s)) (λ c room. kind_said (kind_of kind) >>= λ k. rewrite_said s k room) (λ c.
+    bind-within (answer_said (read_config s)) (λ c room. kind_said (kind_of kind) >>= λ k. rewrite_said s k room) (λ c.
     bind-within (kind_said (kind_of kind)) (rewrite_said s) (rewrite-within s))
 
 -- DEMAND 1. On "no" no byte of a lent buffer is changed; on "yes" the bytes or places that were said stand at its front, and the rest is as it was
@@ -167,40 +161,27 @@ refused-unchanged = (
   (λ s kind. lent (write_config_call s kind) (write-config-within s kind)),
 )
 
--- what a row's answer, and a configuration's, says of the rule that gave it
-row-no : (x : Said Refusal Row) (r : Refusal) → (row_answer x).answer ≡ No r → x ≡ refuses r
-row-no (says q) r e = cc
-row-no (refuses q) r e = cc
-
-config-no : (x : Said Refusal Config) (r : Refusal) → (config_answer x).answer ≡ No r → x ≡ refuses r
-config-no (says c) r e = cc
-config-no (refuses q) r e = cc
-
 -- what showing row n says
 abbrev showing : Layout → List ℕ → ℕ → Said Refusal Row
 showing l s n = must (is_sized l) (refused 10 0 0) >> (must (has_row l n) (refused 15 0 0) >> (file_fine l s >> says (row_at l s (n - 1))))
 
-show-zeros : (l : Layout) (s : List ℕ) (n : ℕ) (r : Refusal) → (show_row l s n).answer ≡ No r → (show_row l s n).row ≡ zero_row
-unfolding show_row
-show-zeros l s n r e = rw (row-no (showing l s n) r e)
-
-config-zeros : (s : List ℕ) (r : Refusal) → (read_config s).answer ≡ No r → (read_config s).config ≡ no_config
-unfolding read_config
-config-zeros s r e = rw (config-no (said_of (configuration (1, s))) r e)
+-- nothing stands beside a refusal
+nothing-beside : {A : Type 0} (x : Result A Refusal) (r : Refusal) → x ≡ Err r → (a : A) → x ≡ Ok a → ⊥
+nothing-beside x r e a q = let w : Err r ≡ Ok a = sym e ∙ q in clash (cc)
 
 -- the answer of an exported call that refuses
 abbrev refusal : Refusal → zl_answer
 refusal r = record { number = r.number; at = r.at; field = r.field; length = 0 }
 
--- DEMAND 1. Zeros beside a "no"
+-- DEMAND 1. Zeros beside a "no": no row and no configuration at all, and in the answer of an exported call no length
 pub zeros-beside :
-    ((l : Layout) (s : List ℕ) (n : ℕ) (r : Refusal) → (show_row l s n).answer ≡ No r → (show_row l s n).row ≡ zero_row)
-    × ((s : List ℕ) (r : Refusal) → (read_config s).answer ≡ No r → (read_config s).config ≡ no_config)
+    ((l : Layout) (s : List ℕ) (n : ℕ) (r : Refusal) → show_row l s n ≡ Err r → (row : Row) → show_row l s n ≡ Ok row → ⊥)
+    × ((s : List ℕ) (r : Refusal) → read_config s ≡ Err r → (c : Config) → read_config s ≡ Ok c → ⊥)
     -- the exported calls: a length, bytes that are written, places that are shown
     × ((x : Said Refusal ℕ) (r : Refusal) → x ≡ refuses r → told x ≡ refusal r)
     × ((x : Said Refusal (List ℕ)) (r : Refusal) → x ≡ refuses r → told_written x ≡ refusal r)
     × ((x : Said Refusal (List ℤ)) (r : Refusal) → x ≡ refuses r → told_shown x ≡ refusal r)
-zeros-beside = (show-zeros, config-zeros, (λ x r e. rw e), (λ x r e. rw e), (λ x r e. rw e))
+zeros-beside = ((λ l s n. nothing-beside (show_row l s n)), (λ s. nothing-beside (read_config s)), (λ x r e. rw e), (λ x r e. rw e), (λ x r e. rw e))
 
 -- what is refused is refused whatever comes after it
 then-refuses : {B : Type 0} (x y : Said Refusal (Unit {0})) (z : Said Refusal B) (r : Refusal) → (x >> y) ≡ refuses r → (x >> (y >> z)) ≡ refuses r
@@ -209,8 +190,8 @@ then-refuses (says u) (refuses q) z r e = let w : q ≡ r = cc e in ap refuses w
 then-refuses (refuses q) y z r e = let w : q ≡ r = cc e in ap refuses w
 
 -- DEMAND 1. What the check of a file refuses, showing a row of it, the length question and the change to a kind of its edition refuse with the same number and place
-pub alike : (l : Layout) (s : List ℕ) (r : Refusal) → check_file l s ≡ No r
-    → ((n : ℕ) → has_row l n ≡ true → show_row l s n ≡ record { answer = No r; row = zero_row })
+pub alike : (l : Layout) (s : List ℕ) (r : Refusal) → check_file l s ≡ Err r
+    → ((n : ℕ) → has_row l n ≡ true → show_row l s n ≡ Err r)
     × ((k : Kind) → has_kind l.edition k ≡ true → bytes_needed l s k ≡ refuses r)
     × ((k : Kind) (room : ℕ) → has_kind l.edition k ≡ true → change_said l s k room ≡ refuses r)
 unfolding check_file show_row bytes_needed change_said
@@ -229,7 +210,7 @@ alike l s r e =
 
 -- DEMAND 1. A row that there is not: 15, whatever the file
 pub no-such-row : (l : Layout) (s : List ℕ) (n : ℕ) → is_sized l ≡ true → has_row l n ≡ false
-    → show_row l s n ≡ record { answer = No (refused 15 0 0); row = zero_row }
+    → show_row l s n ≡ Err (refused 15 0 0)
 unfolding show_row
 no-such-row l s n ok none = rw (ok, none)
 
@@ -246,7 +227,7 @@ as-the-question l s k room r =
     go (refuses q) e = let w : q ≡ r = cc e in inl (ap refuses w)
 
 -- DEMAND 1. What the reading of a configuration refuses, the writer refuses with the same number and place, before it looks at the kind's number
-pub as-the-reader : (s : List ℕ) (r : Refusal) → (read_config s).answer ≡ No r
+pub as-the-reader : (s : List ℕ) (r : Refusal) → read_config s ≡ Err r
     → ((k : Kind) (room : ℕ) → rewrite_said s k room ≡ refuses r) × ((kind room : ℕ) → write_config_call s kind room ≡ refuses r)
 unfolding rewrite_said write_config_call
 as-the-reader s r e = ((λ k room. rw e), (λ kind room. rw e))
@@ -281,14 +262,14 @@ change-only l s k room =
     (only_wider (PlacedTo 16) Placed (bytes_needed l s k) (λ r p. p.0) (needed-only l s k)) (λ m e.
     only_then Placed (must (leb m room) (refused 17 0 0)) (says (changed l s k)) (only-must Placed (leb m room) (refused 17 0 0) (λ t. no-room)) (λ t. tt)))
 
-show-only : (l : Layout) (s : List ℕ) (n : ℕ) → RefusesOnly (PlacedTo 16) (row_said (show_row l s n))
+show-only : (l : Layout) (s : List ℕ) (n : ℕ) → RefusesOnly (PlacedTo 16) (answer_said (show_row l s n))
 unfolding show_row
 show-only l s n = go (showing l s n)
     (only_then (PlacedTo 16) (must (is_sized l) (refused 10 0 0)) _ (sized-only l) (λ e.
     only_then (PlacedTo 16) (must (has_row l n) (refused 15 0 0)) _ (only-must (PlacedTo 16) (has_row l n) (refused 15 0 0) (λ t. (no_row, lit≤ tt))) (λ f.
     only_then (PlacedTo 16) (file_fine l s) (says (row_at l s (n - 1))) (file-placed l s) (λ g. tt))))
   where
-    go : (x : Said Refusal Row) → RefusesOnly (PlacedTo 16) x → RefusesOnly (PlacedTo 16) (row_said (row_answer x))
+    go : (x : Said Refusal Row) → RefusesOnly (PlacedTo 16) x → RefusesOnly (PlacedTo 16) (answer_said (answer_of x))
     go (says r) p = tt
     go (refuses r) p = p
 
@@ -317,23 +298,23 @@ asked-only l n zs =
     only_then Placed (must (leb (places_of l) (length zs)) (refused 10 0 0)) _ (only-must Placed (leb (places_of l) (length zs)) (refused 10 0 0) (λ f. sizes-or-kind)) (λ f.
     unfit-only l n (2 + unfit l zs) (eqb (unfit l zs) (places_of l)) (says (row_of_places l zs)) (omega arith) tt))
 
-kind-only : (k : KindNo) → RefusesOnly Placed (kind_said k)
-kind-only (number.Is k) = tt
-kind-only number.None = sizes-or-kind
+kind-only : (k : Option Kind) → RefusesOnly Placed (kind_said k)
+kind-only (Some k) = tt
+kind-only None = sizes-or-kind
 
-layout-only : (l : LayoutNo) → RefusesOnly Placed (layout_said l)
-layout-only (layout.Is l) = tt
-layout-only layout.None = sizes-or-kind
+layout-only : (l : Option Layout) → RefusesOnly Placed (layout_said l)
+layout-only (Some l) = tt
+layout-only None = sizes-or-kind
 
 placed-only : {A : Type 0} (count : ℕ) (zs : List A) (room : ℕ) → RefusesOnly Placed (placed count zs room)
 placed-only count zs room =
     only_then Placed (must (leb count room) (refused 17 0 0)) (says zs) (only-must Placed (leb count room) (refused 17 0 0) (λ e. no-room)) (λ e. tt)
 
-config-only : (s : List ℕ) → RefusesOnly Placed (config_said (read_config s))
+config-only : (s : List ℕ) → RefusesOnly Placed (answer_said (read_config s))
 unfolding read_config
 config-only s = go (said_of (configuration (1, s))) (config-placed s)
   where
-    go : (x : Said Refusal Config) → RefusesOnly (PlacedTo 9) x → RefusesOnly Placed (config_said (config_answer x))
+    go : (x : Said Refusal Config) → RefusesOnly (PlacedTo 9) x → RefusesOnly Placed (answer_said (answer_of x))
     go (says c) p = tt
     go (refuses r) p = p.0
 
@@ -364,14 +345,14 @@ reason-only n room =
 -- the exported calls
 config-call-only : (s : List ℕ) (room : ℕ) → RefusesOnly Placed (config_call s room)
 unfolding config_call
-config-call-only s room = only-bind Placed (config_said (read_config s)) (λ c. placed 35 (config_places c) room) (config-only s) (λ c e. placed-only 35 (config_places c) room)
+config-call-only s room = only-bind Placed (answer_said (read_config s)) (λ c. placed 35 (config_places c) room) (config-only s) (λ c e. placed-only 35 (config_places c) room)
 
 -- of a kind by its number
 by_number : {A : Type 0} (kind : ℕ) (f : Kind → Said Refusal A) → ((k : Kind) → RefusesOnly Placed (f k)) → RefusesOnly Placed (kind_said (kind_of kind) >>= f)
 by_number kind f p = only-bind Placed (kind_said (kind_of kind)) f (kind-only (kind_of kind)) (λ k e. p k)
 
 -- of a layout by its numbers
-by_layout : {A : Type 0} (l : LayoutNo) (f : Layout → Said Refusal A) → ((l : Layout) → RefusesOnly Placed (f l)) → RefusesOnly Placed (layout_said l >>= f)
+by_layout : {A : Type 0} (l : Option Layout) (f : Layout → Said Refusal A) → ((l : Layout) → RefusesOnly Placed (f l)) → RefusesOnly Placed (layout_said l >>= f)
 by_layout l f p = only-bind Placed (layout_said l) f (layout-only l) (λ k e. p k)
 
 check-call-only : (a d rows kind edition : ℕ) (s : List ℕ) → RefusesOnly Placed (check_call a d rows kind edition s)
@@ -384,8 +365,8 @@ row-call-only : (a d rows kind edition : ℕ) (s : List ℕ) (n room : ℕ) → 
 unfolding row_call row_in
 row-call-only a d rows kind edition s n room =
     by_layout (layout_of a d rows kind edition) (λ l. row_in l s n room) (λ l.
-    only-bind Placed (row_said (show_row l s n)) (λ r. placed (places_of l) (row_places l r) room)
-    (only_wider (PlacedTo 16) Placed (row_said (show_row l s n)) (λ r p. p.0) (show-only l s n))
+    only-bind Placed (answer_said (show_row l s n)) (λ r. placed (places_of l) (row_places l r) room)
+    (only_wider (PlacedTo 16) Placed (answer_said (show_row l s n)) (λ r p. p.0) (show-only l s n))
     (λ r e. placed-only (places_of l) (row_places l r) room))
 
 write-call-only : (a d rows kind edition n : ℕ) (zs : List ℤ) (room : ℕ) → RefusesOnly Placed (write_call a d rows kind edition n zs room)
@@ -416,21 +397,21 @@ result-only new room =
 rewrite-only : (s : List ℕ) (k : Kind) (room : ℕ) → RefusesOnly Placed (rewrite_said s k room)
 unfolding rewrite_said
 rewrite-only s k room =
-    only-bind Placed (config_said (read_config s)) (λ c. must (has_kind c.layout.edition k) (refused 10 0 0) >> result_said (rewritten c k s) room) (config-only s) (λ c e.
+    only-bind Placed (answer_said (read_config s)) (λ c. must (has_kind c.layout.edition k) (refused 10 0 0) >> result_said (rewritten c k s) room) (config-only s) (λ c e.
     only_then Placed (must (has_kind c.layout.edition k) (refused 10 0 0)) (result_said (rewritten c k s) room)
     (only-must Placed (has_kind c.layout.edition k) (refused 10 0 0) (λ f. sizes-or-kind)) (λ f. result-only (rewritten c k s) room))
 
 write-config-only : (s : List ℕ) (kind room : ℕ) → RefusesOnly Placed (write_config_call s kind room)
 unfolding write_config_call
 write-config-only s kind room =
-    only-bind Placed (config_said (read_config s)) (λ c. kind_said (kind_of kind) >>= λ k. rewrite_said s k room) (config-only s) (λ c e.
+    only-bind Placed (answer_said (read_config s)) (λ c. kind_said (kind_of kind) >>= λ k. rewrite_said s k room) (config-only s) (λ c e.
     by_number kind (λ k. rewrite_said s k room) (λ k. rewrite-only s k room))
 
 -- DEMAND 1. Each call that refuses gives the number at its place
 pub all_placed :
-    ((s : List ℕ) (r : Refusal) → (read_config s).answer ≡ No r → Placed r)
-    × ((l : Layout) (s : List ℕ) (r : Refusal) → check_file l s ≡ No r → Placed r)
-    × ((l : Layout) (s : List ℕ) (n : ℕ) (r : Refusal) → (show_row l s n).answer ≡ No r → Placed r)
+    ((s : List ℕ) (r : Refusal) → read_config s ≡ Err r → Placed r)
+    × ((l : Layout) (s : List ℕ) (r : Refusal) → check_file l s ≡ Err r → Placed r)
+    × ((l : Layout) (s : List ℕ) (n : ℕ) (r : Refusal) → show_row l s n ≡ Err r → Placed r)
     × ((l : Layout) (n : ℕ) (row : Row) (room : ℕ) (r : Refusal) → write_said l n row room ≡ refuses r → Placed r)
     × ((l : Layout) (s : List ℕ) (k : Kind) (r : Refusal) → bytes_needed l s k ≡ refuses r → Placed r)
     × ((l : Layout) (s : List ℕ) (k : Kind) (room : ℕ) (r : Refusal) → change_said l s k room ≡ refuses r → Placed r)
@@ -445,9 +426,9 @@ pub all_placed :
     × ((a d rows kind edition : ℕ) (s : List ℕ) (new room : ℕ) (r : Refusal) → change_call a d rows kind edition s new room ≡ refuses r → Placed r)
     × ((s : List ℕ) (kind room : ℕ) (r : Refusal) → write_config_call s kind room ≡ refuses r → Placed r)
 all_placed = (
-  (λ s r e. only-given Placed (config_said (read_config s)) r (rw e) (config-only s)),
+  (λ s r e. only-given Placed (answer_said (read_config s)) r (rw e) (config-only s)),
   (λ l s r e. only-given Placed (answer_said (check_file l s)) r (rw e) (accepted-only l s)),
-  (λ l s n r e. (only-given (PlacedTo 16) (row_said (show_row l s n)) r (rw e) (show-only l s n)).0),
+  (λ l s n r e. (only-given (PlacedTo 16) (answer_said (show_row l s n)) r (rw e) (show-only l s n)).0),
   (λ l n row room r e. only-given Placed (write_said l n row room) r e (write-only l n row room)),
   (λ l s k r e. (only-given (PlacedTo 16) (bytes_needed l s k) r e (needed-only l s k)).0),
   (λ l s k room r e. only-given Placed (change_said l s k room) r e (change-only l s k room)),

@@ -1,6 +1,6 @@
 -- The demands on configurations, as theorems; crate `paper` tells what a `Configuration` is, and crate `exact_config` proves them.
 --     config-exactly     demand 2: the bytes s are accepted and show c exactly when they are a configuration that shows c
---     config-refused     demands 1 and 2: they are refused, with zeros, no dates and no last lines beside it, exactly when they are none
+--     config-refused     demands 1 and 2: they are refused exactly when they are none
 --     one-config         demand 2: a configuration shows one thing
 --     sized-config       demand 2: its layout is allowed, so that no data call refuses it with 10
 --     absent-exactly     demand 2: it shows that it has no last lines exactly where its edition is 1999

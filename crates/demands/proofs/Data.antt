@@ -2,7 +2,7 @@
 --     data-exactly           demand 2: a file is accepted, and these rows are shown, exactly when the layout is allowed and it is the data file of these rows
 --     row-shown              demand 2: row n is shown, and is q, exactly when the file is the data file of rows of which q is the n-th
 --     data-refused           demands 1 and 2: a file is refused exactly when it is the data file of no rows
---     row-refused            demands 1 and 2: a row is refused, with zeros beside it, exactly when the file is, or when there is no such row
+--     row-refused            demands 1 and 2: a row is refused exactly when the file is, or when there is no such row
 --     one-file               demand 2: a file is the data file of one row of rows alone
 --     written-exactly        demand 2: a row is written exactly when its samples are in range, or missing
 --     written_stands         demand 2: a row that was written, standing in a data file as row n, is shown as it was written, its places past A and D zero
@@ -32,13 +32,13 @@ use Rattle.model.specs.declared.Kind.TheVariants.{Ascii}
 use Rattle.model.specs.declared.Layout.{Layout}
 use Rattle.model.specs.declared.Row.{Row}
 use Rattle.model.specs.declared.Refusal.{Refusal}
-use Rattle.model.specs.declared.Answer.TheVariants.{Yes}
+use Rattle.std.proofs.Common.{Ok}
 use Rattle.model.specs.Editions.{has_kind}
 use Rattle.model.specs.Layouts.{in_kind}
 use Rattle.model.specs.Refusals.{refused}
 use Rattle.model.specs.Rows.{latest_time, trimmed}
 use Rattle.row_bytes.specs.Rows.{bytes_of}
-use Rattle.data.specs.Files.{has_row, misfit_of, check_file, row_answer, show_row, write_said, file_of}
+use Rattle.data.specs.Files.{has_row, misfit_of, check_file, show_row, write_said, file_of}
 use Rattle.model.proofs.LayoutLaws.{sized-is}
 use Rattle.data.proofs.Laws.{row_told, writable}
 use Rattle.data.proofs.FileLaws.{Writes}
@@ -76,20 +76,20 @@ written-exactly l n r allowed h k early = (
 
 -- DEMAND 2. A row that was written, standing in a data file as row n, is shown as it was written: its places past A and D zero
 pub written_stands : (l : Layout) (n : ℕ) (r : Row) (room : ℕ) (b s : List ℕ) (q : ℕ → Row) → every is_byte s ≡ true
-    → write_said l n r room ≡ says b → r.time ≤ latest_time → DataFile l q s → Stands l n b s → show_row l s n ≡ row_answer (says (trimmed l r))
+    → write_said l n r room ≡ says b → r.time ≤ latest_time → DataFile l q s → Stands l n b s → show_row l s n ≡ Ok (trimmed l r)
 written_stands l n r room b s q bytes e h t st =
     let w = writable l n r room b e in
     let k = row_told l n w.there in
     let row = row-stands l s n r q w.fit k (writes l n r room b h e) (subst (λ (x : List ℕ). Stands l n x s) w.bytes st) bytes t in
     let z : n - 1 + 1 ≡ n = omega (arith, k.0) in
-    (rw z at (((data-exactly l s bytes q).1 ((w.fit, w.has), t)).1 (n - 1) (omega (arith, k.0, k.1)))) ∙ ap (λ (x : Row). row_answer (says x)) row
+    (rw z at (((data-exactly l s bytes q).1 ((w.fit, w.has), t)).1 (n - 1) (omega (arith, k.0, k.1)))) ∙ ap (λ (x : Row). Ok x) row
 
 -- DEMAND 2. Rows that were written, one after the other, and then any of the endings are the data file of these rows: it is accepted, and shows each as it was written
 pub three-endings : (l : Layout) (r : ℕ → Row) (room : ℕ → ℕ) (b : ℕ → List ℕ) (end : List ℕ) → Allowed l
     → ((i : ℕ) → i < l.rows → ((r i).time ≤ latest_time) × (write_said l (i + 1) (r i) (room i) ≡ says (b i))) → EndingOf l.kind end
     → DataFile l (λ i. trimmed l (r i)) (cat b l.rows ++ end)
-    × (check_file l (cat b l.rows ++ end) ≡ Yes)
-    × ((i : ℕ) → i < l.rows → show_row l (cat b l.rows ++ end) (i + 1) ≡ row_answer (says (trimmed l (r i))))
+    × (check_file l (cat b l.rows ++ end) ≡ Ok tt)
+    × ((i : ℕ) → i < l.rows → show_row l (cat b l.rows ++ end) (i + 1) ≡ Ok (trimmed l (r i)))
 three-endings l r room b end allowed w h =
     let s = cat (λ i. bytes_of l (i + 1) (r i)) l.rows ++ end in
     let fit : (i : ℕ) → i < l.rows → Writes l (r i) = λ i k. writes l (i + 1) (r i) (room i) (b i) (w i k).0 (w i k).1 in

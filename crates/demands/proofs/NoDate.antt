@@ -20,16 +20,12 @@ use Rattle.ground.specs.Quoted.{quoted}
 use Rattle.ground.proofs.Cases.{on_test, clash}
 use Rattle.text.specs.Fields.{field_count, field_at}
 use Rattle.clock.specs.declared.Date.{Date}
-use Rattle.clock.specs.declared.DateField.{DateField}
-use Rattle.clock.specs.declared.DateField.TheVariants as date
+use Rattle.std.proofs.Common.{Err, None, Ok, Option, Result, Some}
+use Rattle.numerals.specs.declared.FieldError.{FieldError}
+use Rattle.clock.specs.declared.Span.{Span}
+use Rattle.numerals.specs.declared.FieldError.TheVariants.{Form, Range}
 use Rattle.clock.specs.declared.Moment.{Moment}
-use Rattle.clock.specs.declared.Stamp.{Stamp}
-use Rattle.clock.specs.declared.Stamp.TheVariants.{At, None}
-use Rattle.clock.specs.declared.Pretrigger.{Pretrigger}
-use Rattle.clock.specs.declared.Pretrigger.TheVariants.{Is, Unknown}
 use Rattle.clock.specs.declared.Time.{Time}
-use Rattle.clock.specs.declared.TimeField.{TimeField}
-use Rattle.clock.specs.declared.TimeField.TheVariants as time
 use Rattle.clock.specs.Dates.{read_date}
 use Rattle.clock.specs.Times.{read_time, is_zero_time}
 use Rattle.clock.specs.Spans.{pre_trigger, pretrigger_of}
@@ -51,8 +47,8 @@ pub no-date-line : (l : List ℕ) → date_line l ≡ says None ↔ ZeroLine l
 no-date-line l = date-line-exactly None l
 
 -- of a stamp
-none-line : (v : Stamp) (l : List ℕ) → StampLine v l → v ≡ None ↔ ZeroLine l
-none-line (At m) l h = (λ e. clash (cc), λ z. let p = (date-line-exactly (At m) l).1 h in let q = (no-date-line l).1 z in clash (cc))
+none-line : (v : Option Moment) (l : List ℕ) → StampLine v l → v ≡ None ↔ ZeroLine l
+none-line (Some m) l h = (λ e. clash (cc), λ z. let p = (date-line-exactly (Some m) l).1 h in let q = (no-date-line l).1 z in clash (cc))
 none-line None l h = (λ e. h, λ z. refl)
 
 -- DEMAND 2. So a configuration shows no date
@@ -64,35 +60,35 @@ abbrev pub NoDay : List ℕ → Type 0
 NoDay l = (f : ℕ → List ℕ) × (x : Date) × Fields 2 f l × DateForm x (f 1) × (Day x → ⊥) × (ZeroLine l → ⊥)
 
 -- a time of zeros
-abbrev ZeroTime : TimeField → Type 0
-ZeroTime t = (x : Time) × (t ≡ time.Is x) × (is_zero_time x ≡ true)
+abbrev ZeroTime : Result Time FieldError → Type 0
+ZeroTime t = (x : Time) × (t ≡ Ok x) × (is_zero_time x ≡ true)
 
 -- refusals that differ
 other-number : (n k i j : ℕ) → eqb n k ≡ false → fault n i ≡ fault k j → ⊥
 other-number n k i j d e = eqb-false n k d (ap (λ (f : Fault). f.number) e)
 
 -- a time of day beside the date of zeros
-six-beside : (y : Time) → none_said (time.Is y) ≡ refuses (fault 6 1) → ZeroTime (time.Is y) → ⊥
+six-beside : (y : Time) → none_said (Ok y) ≡ refuses (fault 6 1) → ZeroTime (Ok y) → ⊥
 six-beside y e (x, p, w) =
     let q : y ≡ x = cc in
     let z : is_zero_time y ≡ true = rw q w in
     let n = rw z at e in
     clash (cc)
 
-six-told : (d : DateField) (t : TimeField) → stamp_said d t ≡ refuses (fault 6 1) → (d ≡ date.Range) ⊎ ((d ≡ date.None) × (ZeroTime t → ⊥))
-six-told (date.Is x) (time.Is y) e = clash (cc)
-six-told (date.Is x) time.Form e = absurd (other-number 5 6 2 1 refl (cc))
-six-told (date.Is x) time.Range e = let q : fault 6 2 ≡ fault 6 1 = cc in absurd (eqb-false 2 1 refl (ap (λ (f : Fault). f.field) q))
-six-told date.None (time.Is y) e = inr (refl, six-beside y e)
-six-told date.None time.Form e = inr (refl, λ (x, p, w). clash (cc))
-six-told date.None time.Range e = inr (refl, λ (x, p, w). clash (cc))
-six-told date.Form t e = absurd (other-number 5 6 1 1 refl (cc))
-six-told date.Range t e = inl refl
+six-told : (d : Result (Option Date) FieldError) (t : Result Time FieldError) → stamp_said d t ≡ refuses (fault 6 1) → (d ≡ Err Range) ⊎ ((d ≡ Ok None) × (ZeroTime t → ⊥))
+six-told (Ok (Some x)) (Ok y) e = clash (cc)
+six-told (Ok (Some x)) (Err Form) e = absurd (other-number 5 6 2 1 refl (cc))
+six-told (Ok (Some x)) (Err Range) e = let q : fault 6 2 ≡ fault 6 1 = cc in absurd (eqb-false 2 1 refl (ap (λ (f : Fault). f.field) q))
+six-told (Ok None) (Ok y) e = inr (refl, six-beside y e)
+six-told (Ok None) (Err Form) e = inr (refl, λ (x, p, w). clash (cc))
+six-told (Ok None) (Err Range) e = inr (refl, λ (x, p, w). clash (cc))
+six-told (Err Form) t e = absurd (other-number 5 6 1 1 refl (cc))
+six-told (Err Range) t e = inl refl
 
-beside-zero : (t : TimeField) → (ZeroTime t → ⊥) → none_said t ≡ refuses (fault 6 1)
-beside-zero (time.Is x) h = on_test (is_zero_time x) (λ z. absurd (h (x, refl, z))) (λ z. rw z)
-beside-zero time.Form h = refl
-beside-zero time.Range h = refl
+beside-zero : (t : Result Time FieldError) → (ZeroTime t → ⊥) → none_said t ≡ refuses (fault 6 1)
+beside-zero (Ok x) h = on_test (is_zero_time x) (λ z. absurd (h (x, refl, z))) (λ z. rw z)
+beside-zero (Err Form) h = refl
+beside-zero (Err Range) h = refl
 
 -- no day of the calendar is of zeros
 zero-no-day : Day zero_date → ⊥
@@ -102,7 +98,7 @@ module _ (l : List ℕ) where
   zero-time-line : field_count l ≡ 2 → field_at 1 l ≡ quoted "00/00/0000" → ZeroTime (read_time (field_at 2 l)) ↔ ZeroLine l
   zero-time-line c q = (λ z. (zero-line l).0 (c, (q, (zero-time (field_at 2 l)).0 z)), λ w. (zero-time (field_at 2 l)).1 ((zero-line l).1 w).1.1)
 
-  no-day-to : field_count l ≡ 2 → (read_date (field_at 1 l) ≡ date.Range) ⊎ ((read_date (field_at 1 l) ≡ date.None) × (ZeroTime (read_time (field_at 2 l)) → ⊥)) → NoDay l
+  no-day-to : field_count l ≡ 2 → (read_date (field_at 1 l) ≡ Err Range) ⊎ ((read_date (field_at 1 l) ≡ Ok None) × (ZeroTime (read_time (field_at 2 l)) → ⊥)) → NoDay l
   no-day-to c (inl e) =
       let ((x, d, n), h) = (date-range (field_at 1 l)).0 e in
       (λ i. field_at i l, x, fields-of 2 l (omega arith) c, d, n, λ w. h ((zero-line l).1 w).1.0)
@@ -133,21 +129,21 @@ pub zero-date-six : (f : ℕ → List ℕ) (l : List ℕ) → Fields 2 f l → f
 zero-date-six f l w d n = (six-at-the-date l).1 (f, zero_date, w, rw d zero-form, zero-no-day, n)
 
 -- of two stamps
-unknown-of : (f t : Stamp) (p : Pretrigger) → Between f t p → p ≡ Unknown ↔ ((f ≡ None) ⊎ (t ≡ None))
-unknown-of (At a) (At b) p (d, q, k) = (λ e. clash (cc), λ e. absurd (neither e))
+unknown-of : (f t : Option Moment) (p : Option Span) → Between f t p → p ≡ None ↔ ((f ≡ None) ⊎ (t ≡ None))
+unknown-of (Some a) (Some b) p (d, q, k) = (λ e. clash (cc), λ e. absurd (neither e))
   where
-    neither : ((At a ≡ None) ⊎ (At b ≡ None)) → ⊥
+    neither : ((Some a ≡ None) ⊎ (Some b ≡ None)) → ⊥
     neither (inl e) = clash (cc)
     neither (inr e) = clash (cc)
-unknown-of (At a) None p q = (λ e. inr refl, λ e. q)
+unknown-of (Some a) None p q = (λ e. inr refl, λ e. q)
 unknown-of None t p q = (λ e. inl refl, λ e. q)
 
 -- DEMAND 2. Where the pre-trigger time is unknown
-pub unknown-exactly : (s : List ℕ) (c : Config) → Configuration s c → c.pretrigger ≡ Unknown ↔ ((c.first ≡ None) ⊎ (c.trigger ≡ None))
+pub unknown-exactly : (s : List ℕ) (c : Config) → Configuration s c → c.pretrigger ≡ None ↔ ((c.first ≡ None) ⊎ (c.trigger ≡ None))
 unknown-exactly s c w = unknown-of c.first c.trigger c.pretrigger w.pretrigger
 
 -- DEMAND 2. And where it is known
-pub known_is : (s : List ℕ) (c : Config) (a b : Moment) → Configuration s c → c.first ≡ At a → c.trigger ≡ At b
-    → c.pretrigger ≡ Is (pre_trigger a.date a.time b.date b.time)
+pub known_is : (s : List ℕ) (c : Config) (a b : Moment) → Configuration s c → c.first ≡ Some a → c.trigger ≡ Some b
+    → c.pretrigger ≡ Some (pre_trigger a.date a.time b.date b.time)
 unfolding pretrigger_of
 known_is s c a b w f t = sym (pretrigger-is s c w) ∙ rw (f, t)

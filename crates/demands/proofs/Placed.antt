@@ -13,12 +13,12 @@ use lib.Dec.{lit≤, eqb, leb}
 use lib.ListN.{length, take, drop}
 use Rattle.ground.specs.Said.{Said, says, refuses, ◌>>=◌, ◌>>◌, must}
 use Rattle.ground.proofs.RefusalLaws.{RefusesOnly, only-must, only_then, only-bind}
-use Rattle.text.specs.declared.Scanned.{Scanned}
-use Rattle.text.specs.declared.Scanned.TheVariants.{Line, Ends, Bad}
+use Rattle.std.proofs.Common.{Err, None, Ok, Option, Result, Some}
+use Rattle.text.specs.declared.LineError.{LineError}
+use Rattle.text.specs.declared.Line.{Line}
+use Rattle.text.specs.declared.LineError.TheVariants.{Bad, Ends}
 use Rattle.text.specs.Lines.{scan_line, scan_last_line}
 use Rattle.text.specs.Fields.{field_count, field_length, first_field, after_fields, field_at}
-use Rattle.numerals.specs.declared.Count.{Count}
-use Rattle.numerals.specs.declared.Count.TheVariants as count
 use Rattle.numerals.specs.Counts.{read_count}
 use Rattle.line_fields.specs.declared.Fault.{Fault}
 use Rattle.channel_lines.specs.Channels.{channels_line, analog_line, status_line}
@@ -122,9 +122,9 @@ binary-placed l s =
 
 -- row n of a text, from the first on
 module _ (n : ℕ) (h : 1 ≤ n) where
-  text-field : (k : ℕ) (v : Count) → RefusesOnly (PlacedTo 16) (ascii.field n k v)
-  text-field k (count.Is v) = tt
-  text-field k count.Form = (row-text n k h, lit≤ tt)
+  text-field : (k : ℕ) (v : Option ℕ) → RefusesOnly (PlacedTo 16) (ascii.field n k v)
+  text-field k (Some v) = tt
+  text-field k None = (row-text n k h, lit≤ tt)
 
   text-fields : (l : Layout) (t : List ℕ) (k m : ℕ) → RefusesOnly (PlacedTo 16) (check_fields l n t k m)
   unfolding check_fields
@@ -149,10 +149,10 @@ module _ (n : ℕ) (h : 1 ≤ n) where
       (only-must (PlacedTo 16) (eqb (field_count t) (fields_of l)) (refused 14 n 0) (λ e. (row-text n 0 h, lit≤ tt)))
       (λ e. only_then (PlacedTo 16) (check_number n t) others (text-number t) (λ f. text-fields l (after_fields 1 t) 2 (1 + l.analogs + l.statuses)))
 
-  text-found : (x : Scanned) → RefusesOnly (PlacedTo 16) (found n x)
-  text-found (Line len taken) = tt
-  text-found Ends = (row_ends n h, lit≤ tt)
-  text-found Bad = (row-text n 0 h, lit≤ tt)
+  text-found : (x : Result Line LineError) → RefusesOnly (PlacedTo 16) (found n x)
+  text-found (Ok one) = tt
+  text-found (Err Ends) = (row_ends n h, lit≤ tt)
+  text-found (Err Bad) = (row-text n 0 h, lit≤ tt)
 
   text-row : (l : Layout) (s : List ℕ) → RefusesOnly (PlacedTo 16) (take_row l n s)
   unfolding take_row
@@ -217,11 +217,11 @@ in-line n after (refuses f) h k p = (at-line n h p, small p)
     small (agreement k i) = lit≤ tt
     small (year k i) = lit≤ tt
 
-read-scanned : {A : Type 0} (rule : List ℕ → Said Fault A) → ((l : List ℕ) → Ruled (rule l)) → (n : ℕ) (s : List ℕ) (t : Scanned) → 1 ≤ n → Read (scanned rule (n, s) t)
+read-scanned : {A : Type 0} (rule : List ℕ → Said Fault A) → ((l : List ℕ) → Ruled (rule l)) → (n : ℕ) (s : List ℕ) (t : Result Line LineError) → 1 ≤ n → Read (scanned rule (n, s) t)
 unfolding Read
-read-scanned rule p n s (Line len taken) h = in-line n (n + 1, drop taken s) (rule (take len s)) h (omega arith) (p (take len s))
-read-scanned rule p n s Ends h = (line-ends n h, lit≤ tt)
-read-scanned rule p n s Bad h = (line-byte n h, lit≤ tt)
+read-scanned rule p n s (Ok one) h = in-line n (n + 1, drop one.taken s) (rule (take one.len s)) h (omega arith) (p (take one.len s))
+read-scanned rule p n s (Err Ends) h = (line-ends n h, lit≤ tt)
+read-scanned rule p n s (Err Bad) h = (line-byte n h, lit≤ tt)
 
 read-line : {A : Type 0} (rule : List ℕ → Said Fault A) → ((l : List ℕ) → Ruled (rule l)) → (p : Place) → 1 ≤ p.0 → Read (line rule p)
 read-line rule r (n, s) h = read-scanned rule r n s (scan_line (length s) s) h

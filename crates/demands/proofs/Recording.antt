@@ -26,10 +26,10 @@ use Rattle.fields.specs.Fields.{in_range, read_count_in, read_lettered, read_yea
 use Rattle.reals.specs.Forms.{leading_digits, fraction_length, mantissa_length, is_e, short_number, raised_by, signed_exponent, exponent_of, real_form, is_nought, is_zero, sign_of, real_sign, signed_real, read_real}
 use Rattle.reals.specs.Exact.{digits_of, decimal_places, exact_of, scaled, size_le, within_bound, in_bound, limit_of, signed_limit, read_limit, max_below}
 use Rattle.patterns.specs.Patterns.{fits_character, fits_pattern, digits_at, between}
-use Rattle.clock.specs.declared.Stamp.{Stamp}
-use Rattle.clock.specs.declared.Stamp.TheVariants.{At, None}
-use Rattle.clock.specs.declared.Pretrigger.{Pretrigger}
-use Rattle.clock.specs.declared.Pretrigger.TheVariants.{Is, Unknown}
+use Rattle.std.proofs.Common.{Err, None, Ok, Option, Some, Result}
+use Rattle.clock.specs.declared.Moment.{Moment}
+use Rattle.config_rules.specs.declared.LastLines.{LastLines}
+use Rattle.clock.specs.declared.Span.{Span}
 use Rattle.clock.specs.Dates.{leap_year, short_month, month_days, valid_date, date_of, is_zero_date, read_date, days_of_years, days_of_months, day_number}
 use Rattle.clock.specs.Times.{valid_time, time_form, fraction_of, time_of, read_time, is_zero_time, second_of_day}
 use Rattle.clock.specs.Spans.{second_number, span_of, pre_trigger, pretrigger_of}
@@ -41,14 +41,12 @@ use Rattle.model.specs.declared.Kind.TheVariants.{Ascii}
 use Rattle.model.specs.declared.Edition.{Edition}
 use Rattle.model.specs.declared.Edition.TheVariants.{Y2013, Y1999}
 use Rattle.model.specs.Editions.{edition_of, has_kind}
-use Rattle.model.specs.declared.Answer.TheVariants.{Yes, No}
 use Rattle.model.specs.Refusals.{refused}
-use Rattle.config_rules.specs.declared.Last.{Last}
-use Rattle.config_rules.specs.declared.Last.TheVariants.{Lines, Absent}
 use Rattle.config_rules.specs.declared.Config.{Config}
-use Rattle.config.specs.Config.{no_config, configuration, read_config}
+use Rattle.config.specs.Config.{configuration, read_config}
 use Rattle.paper.specs.Configuration.{Configuration}
 use Rattle.exact_config.proofs.ExactLaws.{config-exactly}
+use Rattle.model.specs.declared.Refusal.{Refusal}
 
 -- the configuration, with this year, these date lines, and these bytes after the time multiplier's line
 abbrev pub recording_by : String → List ℕ → List ℕ → List ℕ → List ℕ
@@ -86,11 +84,11 @@ abbrev pub recording : List ℕ
 recording = recording_with "03/02/2024" "0,0"
 
 -- the moment of its day and minute with these nanoseconds
-abbrev pub recorded_at : ℕ → Stamp
-recorded_at n = At (record { date = record { day = 3; month = 2; year = 2024 }; time = record { hour = 9; minute = 15; second = 0; nanosecond = n } })
+abbrev pub recorded_at : ℕ → Option Moment
+recorded_at n = Some (record { date = record { day = 3; month = 2; year = 2024 }; time = record { hour = 9; minute = 15; second = 0; nanosecond = n } })
 
 -- what it shows, of its edition, its stamps, the time between them and its last lines
-abbrev shows_by : Edition → Stamp → Stamp → Pretrigger → Last → Config
+abbrev shows_by : Edition → Option Moment → Option Moment → Option Span → Option LastLines → Config
 shows_by edition first trigger pretrigger last =
     record {
       layout = record { analogs = 1; statuses = 1; rows = 2; kind = Ascii; edition = edition };
@@ -103,12 +101,12 @@ shows_by edition first trigger pretrigger last =
     }
 
 -- with a clock
-abbrev shows_dated : Edition → Last → Config
-shows_dated edition last = shows_by edition (recorded_at 0) (recorded_at 1_000_000) (Is (record { seconds = pos 0; nanoseconds = 1_000_000 })) last
+abbrev shows_dated : Edition → Option LastLines → Config
+shows_dated edition last = shows_by edition (recorded_at 0) (recorded_at 1_000_000) (Some (record { seconds = pos 0; nanoseconds = 1_000_000 })) last
 
 -- what the last lines say, with this time code
-abbrev pub last_with : ℤ → Last
-last_with code = Lines (record { code = code; x = false; local = pos 0; quality = 0; leap = 3 })
+abbrev pub last_with : ℤ → Option LastLines
+last_with code = Some (record { code = code; x = false; local = pos 0; quality = 0; leap = 3 })
 
 -- as the rules print it
 abbrev pub recording_shows : Config
@@ -116,20 +114,25 @@ recording_shows = shows_dated Y2013 (last_with (pos 0))
 
 -- as one of 1999
 abbrev pub shows1999 : Config
-shows1999 = shows_dated Y1999 Absent
+shows1999 = shows_dated Y1999 None
 
 -- without a clock
 abbrev pub no_clock_shows : Config
-no_clock_shows = shows_by Y2013 None None Unknown (last_with (pos 0))
+no_clock_shows = shows_by Y2013 None None None (last_with (pos 0))
+
+-- what an accepted configuration shows of its last lines, or its refusal
+abbrev pub ends_of : Result Config Refusal → Result (Option LastLines) Refusal
+ends_of (Ok c) = Ok c.last
+ends_of (Err r) = Err r
 
 computed :
-    (read_config recording ≡ record { answer = Yes; config = recording_shows })
-    × (read_config (recording_with "29/02/1900" "0,0") ≡ record { answer = No (refused 6 8 1); config = no_config })
-    × ((read_config (recording_with "03/02/2024" "-0h30,0")).config.last ≡ last_with (neg_ℤ (pos 30)))
-    × (read_config recording1999 ≡ record { answer = Yes; config = shows1999 })
-    × (read_config no_clock ≡ record { answer = Yes; config = no_clock_shows })
-    × (read_config (recording_with "00/00/0000" "0,0") ≡ record { answer = No (refused 6 8 1); config = no_config })
-    × (read_config (recording_with "00/02/2024" "0,0") ≡ record { answer = No (refused 6 8 1); config = no_config })
+    (read_config recording ≡ Ok recording_shows)
+    × (read_config (recording_with "29/02/1900" "0,0") ≡ Err (refused 6 8 1))
+    × (ends_of (read_config (recording_with "03/02/2024" "-0h30,0")) ≡ Ok (last_with (neg_ℤ (pos 30))))
+    × (read_config recording1999 ≡ Ok shows1999)
+    × (read_config no_clock ≡ Ok no_clock_shows)
+    × (read_config (recording_with "00/00/0000" "0,0") ≡ Err (refused 6 8 1))
+    × (read_config (recording_with "00/02/2024" "0,0") ≡ Err (refused 6 8 1))
 unfolding read_config configuration scan_line scan_last_line field_count after_fields field_at length_in is_digit number_of read_count sign_length has_minus
     station_line channels_line names scale limits analog_line status_line frequency_line rates_line rate_line date_line kind_line multiplier_line codes_line quality_line
     edition_of has_kind text_fault index_fault real_fault frequency_fault above_fault in_range read_count_in read_lettered read_year read_one_of digit_value read_digit_of read_state read_side read_quality read_leap small read_kind
@@ -140,35 +143,35 @@ unfolding read_config configuration scan_line scan_last_line field_count after_f
     read_code read_local_code code_in code_of small_x hours_and_minutes hours_of minutes_of signed_minutes
 computed = (refl, refl, refl, refl, refl, refl, refl)
 
-pub recording-accepted : read_config recording ≡ record { answer = Yes; config = recording_shows }
+pub recording-accepted : read_config recording ≡ Ok recording_shows
 recording-accepted = computed.0
 
 -- DEMAND 2. There is a configuration, and it shows all this
 pub recording-configuration : Configuration recording recording_shows
 recording-configuration = (config-exactly recording recording_shows).0 recording-accepted
 
-pub accepted-1999 : read_config recording1999 ≡ record { answer = Yes; config = shows1999 }
+pub accepted-1999 : read_config recording1999 ≡ Ok shows1999
 accepted-1999 = computed.3
 
 -- DEMAND 2. There is a configuration of 1999, and its last lines are absent
 pub configuration-1999 : Configuration recording1999 shows1999
 configuration-1999 = (config-exactly recording1999 shows1999).0 accepted-1999
 
-pub no-clock-accepted : read_config no_clock ≡ record { answer = Yes; config = no_clock_shows }
+pub no-clock-accepted : read_config no_clock ≡ Ok no_clock_shows
 no-clock-accepted = computed.4
 
 -- DEMAND 2. There is a configuration without dates, and its pre-trigger time is unknown
 pub no-clock-configuration : Configuration no_clock no_clock_shows
 no-clock-configuration = (config-exactly no_clock no_clock_shows).0 no-clock-accepted
 
-pub zero-date-refused : read_config (recording_with "00/00/0000" "0,0") ≡ record { answer = No (refused 6 8 1); config = no_config }
+pub zero-date-refused : read_config (recording_with "00/00/0000" "0,0") ≡ Err (refused 6 8 1)
 zero-date-refused = computed.5
 
-pub half-zero-refused : read_config (recording_with "00/02/2024" "0,0") ≡ record { answer = No (refused 6 8 1); config = no_config }
+pub half-zero-refused : read_config (recording_with "00/02/2024" "0,0") ≡ Err (refused 6 8 1)
 half-zero-refused = computed.6
 
-pub recording-refused : read_config (recording_with "29/02/1900" "0,0") ≡ record { answer = No (refused 6 8 1); config = no_config }
+pub recording-refused : read_config (recording_with "29/02/1900" "0,0") ≡ Err (refused 6 8 1)
 recording-refused = computed.1
 
-pub recording-code : (read_config (recording_with "03/02/2024" "-0h30,0")).config.last ≡ last_with (neg_ℤ (pos 30))
+pub recording-code : ends_of (read_config (recording_with "03/02/2024" "-0h30,0")) ≡ Ok (last_with (neg_ℤ (pos 30)))
 recording-code = computed.2

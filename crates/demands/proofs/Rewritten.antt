@@ -19,7 +19,7 @@ use Rattle.ground.specs.Tables.{every}
 use Rattle.words.specs.Words.{is_byte}
 use Rattle.model.specs.declared.Kind.{Kind}
 use Rattle.model.specs.declared.Row.{Row}
-use Rattle.model.specs.declared.Answer.TheVariants.{Yes}
+use Rattle.std.proofs.Common.{Ok}
 use Rattle.model.specs.Editions.{has_kind}
 use Rattle.model.specs.Layouts.{in_kind}
 use Rattle.model.proofs.LayoutLaws.{sized-in}
@@ -44,8 +44,8 @@ pub recording-changed : (s : List ℕ) (c : Config) (d : List ℕ) (r : ℕ → 
     → (w : List ℕ) × (u : List ℕ)
     × ((room : ℕ) → length w ≤ room → rewrite_said s k room ≡ says w)
     × ((room : ℕ) → length u ≤ room → change_said c.layout d k room ≡ says u)
-    × (read_config w ≡ record { answer = Yes; config = with_kind k c })
-    × (check_file (with_kind k c).layout u ≡ Yes)
+    × (read_config w ≡ Ok (with_kind k c))
+    × (check_file (with_kind k c).layout u ≡ Ok tt)
     × ((i : ℕ) → i < c.layout.rows → show_row (with_kind k c).layout u (i + 1) ≡ show_row c.layout d (i + 1))
 unfolding with_kind
 recording-changed s c d r k t bytes f has all small =

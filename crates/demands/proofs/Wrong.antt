@@ -60,9 +60,8 @@ use Rattle.numerals.specs.Wholes.{sign_length, has_minus, with_sign, signed_numb
 use Rattle.numerals.specs.Decimals.{decimal_in, decimal, plain}
 use Rattle.clock.specs.declared.Moment.{Moment}
 use Rattle.clock.specs.declared.Span.{Span}
-use Rattle.clock.specs.declared.Stamp.{Stamp}
-use Rattle.clock.specs.declared.Stamp.TheVariants.{At, None}
-use Rattle.clock.specs.declared.Pretrigger.TheVariants as known
+use Rattle.std.proofs.Common.{Err, None, Ok, Option, Result, Some}
+use Rattle.config_rules.specs.declared.LastLines.{LastLines}
 use Rattle.patterns.specs.Patterns.{fits_character, fits_pattern, digits_at}
 use Rattle.clock.specs.Dates.{date_of, is_zero_date, read_date}
 use Rattle.clock.specs.Times.{time_form, read_time}
@@ -76,9 +75,6 @@ use Rattle.model.specs.Editions.{edition_of, has_kind}
 use Rattle.model.specs.declared.Layout.{Layout}
 use Rattle.model.specs.declared.Row.{Row}
 use Rattle.model.specs.declared.Refusal.{Refusal}
-use Rattle.model.specs.declared.Answer.{Answer}
-use Rattle.model.specs.declared.Answer.TheVariants.{Yes, No}
-use Rattle.model.specs.declared.Sample.TheVariants.{Is, Missing}
 use Rattle.model.specs.Kinds.{kind_of}
 use Rattle.model.specs.Samples.{missing, is_missing, none, is_none, sample_of, holds, fits, sample_of_word, word_of_sample, marked, is_mark}
 use Rattle.model.specs.Layouts.{is_sized, in_kind}
@@ -86,9 +82,6 @@ use Rattle.model.specs.Refusals.{refused}
 use Rattle.model.specs.Rows.{zero_row, sample_at, misfit}
 use Rattle.config_rules.specs.Shown.{with_kind}
 use Rattle.config_rules.specs.declared.Config.{Config}
-use Rattle.config_rules.specs.declared.Last.{Last}
-use Rattle.config_rules.specs.declared.Last.TheVariants.{Lines, Absent}
-use Rattle.config.specs.declared.ConfigAnswer.{ConfigAnswer}
 use Rattle.config.specs.Config.{read_config}
 use Rattle.binary_row.specs.Rows as binary
 use Rattle.binary_bytes.specs.Rows.{binary_of, packed}
@@ -111,12 +104,12 @@ use Rattle.row_places.specs.Rows.{place_sample, up_to, fits_sample, fits_place, 
 use Rattle.answers.specs.Answers.{layout_of}
 use Rattle.calls_data.specs.Calls.{row_asked, write_call}
 use Rattle.rewrite.specs.Rewrite.{rewritten, rewrite_said}
-use Rattle.exact_config.proofs.ExactLaws.{config-exactly}
 use Rattle.exact_rewrite.proofs.ExactLaws.{rewritten-exactly, written-accepted, never-long}
 use Rattle.demands.proofs.Calls.{never-17}
-use Rattle.demands.proofs.Recording.{recording_with, recording, recording1999, no_clock, recorded_at, last_with, recording_shows, no_clock_shows}
+use Rattle.demands.proofs.Recording.{recording_with, recording, recording1999, no_clock, recorded_at, last_with, recording_shows, no_clock_shows, shows1999, ends_of, recording-accepted}
 use Rattle.demands.proofs.Recording.{recording-accepted, accepted-1999, recording-configuration, recording-code, no-clock-accepted, zero-date-refused, half-zero-refused}
 use Rattle.demands.proofs.Vectors.{layout, row, of-t1, t1, t2, t3, vectors}
+use Rattle.demands.proofs.Missing.{channel_of}
 
 -- T1's rows
 abbrev row-1 : Row
@@ -165,10 +158,10 @@ marked-text = quoted "1,0,99999\r\n\u{1a}\r\n"
 
 computed :
     -- T1 has two rows, in every kind
-    ((check_file (layout 1 1 1 Ascii) t1 ≡ No (refused 11 2 0))
-    × (check_file (layout 1 1 3 Ascii) t1 ≡ No (refused 14 3 0))
-    × (check_file (layout 1 1 1 Binary) t2 ≡ No (refused 11 0 0))
-    × (check_file (layout 1 1 1 Binary32) t3 ≡ No (refused 11 0 0))
+    ((check_file (layout 1 1 1 Ascii) t1 ≡ Err (refused 11 2 0))
+    × (check_file (layout 1 1 3 Ascii) t1 ≡ Err (refused 14 3 0))
+    × (check_file (layout 1 1 1 Binary) t2 ≡ Err (refused 11 0 0))
+    × (check_file (layout 1 1 1 Binary32) t3 ≡ Err (refused 11 0 0))
     × (has_row (of-t1 Ascii) 2 ≡ true))
     -- one row is written
     × ((write_said (of-t1 Binary) 1 row-1 12 ≡ says (take 12 t2))
@@ -180,8 +173,8 @@ computed :
     × (change_said (of-t1 Binary) t2 Ascii 27 ≡ says t1)
     × (change_said (of-t1 Binary) zeros Ascii 27 ≡ says zeros-text))
     -- samples do not fit
-    × ((check_file (layout 1 0 2 Ascii) both-unfit ≡ Yes)
-    × (check_file (layout 1 0 2 Ascii) second-unfit ≡ Yes)
+    × ((check_file (layout 1 0 2 Ascii) both-unfit ≡ Ok tt)
+    × (check_file (layout 1 0 2 Ascii) second-unfit ≡ Ok tt)
     × (fit_row (layout 1 0 2 Binary) 1 (row_at (layout 1 0 2 Ascii) second-unfit 0) ≡ says tt)
     × (change_said (layout 1 0 2 Ascii) second-unfit Binary 20 ≡ refuses (refused 16 2 3))
     × (bytes_of (layout 1 0 2 Binary) 1 (row_at (layout 1 0 2 Ascii) second-unfit 0) ≡ 0x01 ∷ replicate 7 0 ++ 0x01 ∷ 0x00 ∷ [])
@@ -189,22 +182,22 @@ computed :
     × (length (changed (layout 1 0 2 Ascii) both-unfit Binary) ≡ 20)
     × (fit_row (layout 1 0 2 Binary) 2 (row_at (layout 1 0 2 Ascii) both-unfit 1) ≡ refuses (refused 16 2 3)))
     -- a sample is missing
-    × ((check_file (layout 1 0 1 Binary) no-sample ≡ Yes)
-    × (sample_at 1 (show_row (layout 1 0 1 Binary) no-sample 1).row ≡ Missing)
+    × ((check_file (layout 1 0 1 Binary) no-sample ≡ Ok tt)
+    × (channel_of 1 (show_row (layout 1 0 1 Binary) no-sample 1) ≡ Ok None)
     × (change_said (layout 1 0 1 Binary) no-sample Binary32 12 ≡ says no-sample-wide)
     × (change_said (layout 1 0 1 Binary32) no-sample-wide Ascii 9 ≡ says no-sample-text)
-    × (check_file (layout 1 0 1 Ascii) (quoted "1,0,\r\n") ≡ Yes)
-    × (check_file (layout 1 0 1 Ascii) (quoted "1,0, \r\n") ≡ No (refused 14 1 3))
-    × (check_file (layout 1 0 1 Ascii) (quoted "1,0,-2147483648\r\n") ≡ No (refused 14 1 3))
+    × (check_file (layout 1 0 1 Ascii) (quoted "1,0,\r\n") ≡ Ok tt)
+    × (check_file (layout 1 0 1 Ascii) (quoted "1,0, \r\n") ≡ Err (refused 14 1 3))
+    × (check_file (layout 1 0 1 Ascii) (quoted "1,0,-2147483648\r\n") ≡ Err (refused 14 1 3))
     × (change_said (layout 1 0 1 Ascii) (quoted "1,0,-32768\r\n") Binary 10 ≡ refuses (refused 16 1 3))
     × (write_call 1 0 1 1 2013 1 (pos 0 ∷ none ∷ []) 10 ≡ says no-sample)
     × (write_call 1 0 1 2 2013 1 (pos 0 ∷ missing ∷ []) 12 ≡ refuses (refused 16 1 3)))
     -- the two editions
-    × ((check_file (of-1999 1 0 1 Ascii) marked-text ≡ Yes)
-    × (sample_at 1 (show_row (of-1999 1 0 1 Ascii) marked-text 1).row ≡ Missing)
-    × (check_file (layout 1 0 1 Ascii) marked-text ≡ Yes)
-    × (sample_at 1 (show_row (layout 1 0 1 Ascii) marked-text 1).row ≡ Is (pos 99999))
-    × (check_file (of-1999 1 0 1 Ascii) (quoted "1,0,\r\n") ≡ No (refused 14 1 3))
+    × ((check_file (of-1999 1 0 1 Ascii) marked-text ≡ Ok tt)
+    × (channel_of 1 (show_row (of-1999 1 0 1 Ascii) marked-text 1) ≡ Ok None)
+    × (check_file (layout 1 0 1 Ascii) marked-text ≡ Ok tt)
+    × (channel_of 1 (show_row (layout 1 0 1 Ascii) marked-text 1) ≡ Ok (Some (pos 99999)))
+    × (check_file (of-1999 1 0 1 Ascii) (quoted "1,0,\r\n") ≡ Err (refused 14 1 3))
     × (change_said (of-1999 1 0 1 Binary) no-sample Ascii 14 ≡ says marked-text)
     × (change_said (layout 1 0 1 Binary) no-sample Ascii 14 ≡ says no-sample-text)
     × (change_said (of-1999 1 0 1 Ascii) marked-text Binary32 14 ≡ refuses (refused 10 0 0))
@@ -226,8 +219,12 @@ computed = (
 )
 
 -- no answer is yes and no
-yes-no : (a : Answer) (r : Refusal) → a ≡ Yes → a ≡ No r → ⊥
-yes-no a r e f = clash (cc)
+yes-no : {A : Type 0} (x : Result A Refusal) (r : Refusal) {a : A} → x ≡ Ok a → x ≡ Err r → ⊥
+yes-no x r {a} e f = let q : Ok a ≡ Err r = sym e ∙ f in clash (cc)
+
+-- a configuration shows one thing
+one-shown : (x : Result Config Refusal) (b c : Config) → x ≡ Ok b → x ≡ Ok c → b ≡ c
+one-shown x b c e f = let q : Ok b ≡ Ok c = sym e ∙ f in cc
 
 -- lists that differ at a place
 differ : (xs ys : List ℕ) (i : ℕ) → eqb (get_or xs i 0) (get_or ys i 0) ≡ false → xs ≡ ys → ⊥
@@ -250,47 +247,51 @@ filled_by new out = new ++ drop (length new) out
 abbrev blank : ℕ → List ℕ
 blank n = replicate n 0
 
-pub refuses-every-file : ((l : Layout) (s : List ℕ) → (r : Refusal) × (check_file l s ≡ No r)) → ⊥
+pub refuses-every-file : ((l : Layout) (s : List ℕ) → (r : Refusal) × (check_file l s ≡ Err r)) → ⊥
 refuses-every-file f = let e = f (of-t1 Ascii) t1 in yes-no (check_file (of-t1 Ascii) t1) e.0 vectors.0.1 e.1
 
-pub refuses-every-configuration : ((s : List ℕ) → (r : Refusal) × ((read_config s).answer ≡ No r)) → ⊥
+pub refuses-every-configuration : ((s : List ℕ) → (r : Refusal) × (read_config s ≡ Err r)) → ⊥
 refuses-every-configuration f =
     let e = f recording in
-    yes-no (read_config recording).answer e.0 (ap (λ a. a.answer) recording-accepted) e.1
+    yes-no (read_config recording) e.0 recording-accepted e.1
 
-pub accepts-every-file : ((l : Layout) (s : List ℕ) → is_sized l ≡ true → check_file l s ≡ Yes) → ⊥
+pub accepts-every-file : ((l : Layout) (s : List ℕ) → is_sized l ≡ true → check_file l s ≡ Ok tt) → ⊥
 unfolding is_sized has_kind
 accepts-every-file f = yes-no (check_file (layout 1 1 1 Ascii) t1) (refused 11 2 0) (f (layout 1 1 1 Ascii) t1 refl) computed.0.0
 
-pub accepts-every-configuration : ((s : List ℕ) → length s ≤ 65536 → (read_config s).answer ≡ Yes) → ⊥
-accepts-every-configuration f = yes-no (read_config []).answer (refused 2 1 0) (f [] (lit≤ tt)) (ap (λ a. a.answer) vectors.10)
+pub accepts-every-configuration : ((s : List ℕ) → length s ≤ 65536 → (c : Config) × (read_config s ≡ Ok c)) → ⊥
+accepts-every-configuration f = let e = f [] (lit≤ tt) in yes-no (read_config []) (refused 2 1 0) e.1 vectors.10
 
-pub shows-zero-rows : ((l : Layout) (s : List ℕ) (n : ℕ) → (show_row l s n).row ≡ zero_row) → ⊥
+pub shows-zero-rows : ((l : Layout) (s : List ℕ) (n : ℕ) (r : Row) → show_row l s n ≡ Ok r → r ≡ zero_row) → ⊥
 unfolding zero_row
 shows-zero-rows f =
-    eqb-false 1000 0 refl (ap (λ a. a.row.time) (sym vectors.0.3) ∙ ap (λ r. r.time) (f (of-t1 Ascii) t1 2))
+    eqb-false 1000 0 refl (ap (λ (r : Row). r.time) (f (of-t1 Ascii) t1 2 _ vectors.0.3))
 
-pub shows-row-1-always : ((l : Layout) (s : List ℕ) (n : ℕ) → check_file l s ≡ Yes → has_row l n ≡ true → show_row l s n ≡ show_row l s 1) → ⊥
+pub shows-row-1-always : ((l : Layout) (s : List ℕ) (n : ℕ) → check_file l s ≡ Ok tt → has_row l n ≡ true → show_row l s n ≡ show_row l s 1) → ⊥
 shows-row-1-always f =
     let e = sym vectors.0.3 ∙ f (of-t1 Ascii) t1 2 vectors.0.1 computed.0.4 ∙ vectors.0.2 in
-    eqb-false 1000 0 refl (ap (λ a. a.row.time) e)
+    eqb-false 1000 0 refl (ap time_of e)
+  where
+    time_of : Result Row Refusal → ℕ
+    time_of (Ok r) = r.time
+    time_of (Err r) = 0
 
 pub rows-from-the-length : (k : Kind)
-    → ((a d rows m : ℕ) (s : List ℕ) → is_sized (layout a d rows k) ≡ true → check_file (layout a d m k) s ≡ Yes → check_file (layout a d rows k) s ≡ Yes)
+    → ((a d rows m : ℕ) (s : List ℕ) → is_sized (layout a d rows k) ≡ true → check_file (layout a d m k) s ≡ Ok tt → check_file (layout a d rows k) s ≡ Ok tt)
     → ⊥
 unfolding is_sized has_kind
 rows-from-the-length Ascii f = yes-no (check_file (layout 1 1 1 Ascii) t1) (refused 11 2 0) (f 1 1 1 2 t1 refl vectors.0.1) computed.0.0
 rows-from-the-length Binary f = yes-no (check_file (layout 1 1 1 Binary) t2) (refused 11 0 0) (f 1 1 1 2 t2 refl vectors.1.3) computed.0.2
 rows-from-the-length Binary32 f = yes-no (check_file (layout 1 1 1 Binary32) t3) (refused 11 0 0) (f 1 1 1 2 t3 refl vectors.2.3) computed.0.3
 
-pub a-row-more-accepted : ((a d rows : ℕ) (k : Kind) (s : List ℕ) → is_sized (layout a d rows k) ≡ true → check_file (layout a d (rows + 1) k) s ≡ Yes
-    → check_file (layout a d rows k) s ≡ Yes)
+pub a-row-more-accepted : ((a d rows : ℕ) (k : Kind) (s : List ℕ) → is_sized (layout a d rows k) ≡ true → check_file (layout a d (rows + 1) k) s ≡ Ok tt
+    → check_file (layout a d rows k) s ≡ Ok tt)
     → ⊥
 unfolding is_sized has_kind
 a-row-more-accepted f = yes-no (check_file (layout 1 1 1 Ascii) t1) (refused 11 2 0) (f 1 1 1 Ascii t1 refl vectors.0.1) computed.0.0
 
-pub a-row-less-accepted : ((a d rows : ℕ) (k : Kind) (s : List ℕ) → is_sized (layout a d (rows + 1) k) ≡ true → check_file (layout a d rows k) s ≡ Yes
-    → check_file (layout a d (rows + 1) k) s ≡ Yes)
+pub a-row-less-accepted : ((a d rows : ℕ) (k : Kind) (s : List ℕ) → is_sized (layout a d (rows + 1) k) ≡ true → check_file (layout a d rows k) s ≡ Ok tt
+    → check_file (layout a d (rows + 1) k) s ≡ Ok tt)
     → ⊥
 unfolding is_sized has_kind
 a-row-less-accepted f = yes-no (check_file (layout 1 1 3 Ascii) t1) (refused 14 3 0) (f 1 1 2 Ascii t1 refl vectors.0.1) computed.0.1
@@ -336,7 +337,7 @@ invented-length told f =
     eqb-false 27 21 refl (sym (f (of-t1 Binary) t2 Ascii 27 t1 computed.2.2) ∙ f (of-t1 Binary) zeros Ascii 27 zeros-text computed.2.3)
 
 -- a row that fits is written before the next is looked at
-pub writes-beside-a-no : ((l : Layout) (s : List ℕ) (k : Kind) (out : List ℕ) → check_file l s ≡ Yes → fit_row (in_kind k l) 1 (row_at l s 0) ≡ says tt
+pub writes-beside-a-no : ((l : Layout) (s : List ℕ) (k : Kind) (out : List ℕ) → check_file l s ≡ Ok tt → fit_row (in_kind k l) 1 (row_at l s 0) ≡ says tt
     → length (bytes_of (in_kind k l) 1 (row_at l s 0)) ≤ length out
     → take (length (bytes_of (in_kind k l) 1 (row_at l s 0))) (over (change_said l s k (length out)) out) ≡ bytes_of (in_kind k l) 1 (row_at l s 0))
     → ⊥
@@ -372,7 +373,7 @@ end-mark-with-a-row f =
     let e : drop 11 new ≡ mark = f (of-t1 Ascii) 2 row-2 14 new refl refl computed.1.2 in
     differ (drop 11 new) mark 0 refl e
 
-pub seventeen-before-sixteen : ((l : Layout) (s : List ℕ) (k : Kind) (room : ℕ) → check_file l s ≡ Yes → room < length (changed l s k)
+pub seventeen-before-sixteen : ((l : Layout) (s : List ℕ) (k : Kind) (room : ℕ) → check_file l s ≡ Ok tt → room < length (changed l s k)
     → change_said l s k room ≡ refuses (refused 17 0 0))
     → ⊥
 seventeen-before-sixteen f =
@@ -380,7 +381,7 @@ seventeen-before-sixteen f =
     let h : 0 < length (changed l both-unfit Binary) = rw computed.3.6 (lit≤ tt) in
     eqb-false 16 17 refl (one-refusal (change_said l both-unfit Binary 0) (refused 16 1 3) (refused 17 0 0) computed.3.5 (f l both-unfit Binary 0 computed.3.0 h)).0
 
-pub later-row-first : ((l : Layout) (s : List ℕ) (k : Kind) (room : ℕ) (r : Refusal) → check_file l s ≡ Yes
+pub later-row-first : ((l : Layout) (s : List ℕ) (k : Kind) (room : ℕ) (r : Refusal) → check_file l s ≡ Ok tt
     → fit_row (in_kind k l) l.rows (row_at l s (l.rows - 1)) ≡ refuses r → change_said l s k room ≡ refuses r)
     → ⊥
 later-row-first f =
@@ -392,19 +393,19 @@ length-says-17 f =
     let e : change_said (of-t1 Ascii) t1 Binary 0 ≡ refuses (refused 17 0 0) = change-needs (of-t1 Ascii) t1 Binary 0 ∙ rw vectors.1.0 in
     never-17 (of-t1 Ascii) t1 Binary (refused 17 0 0) (f (of-t1 Ascii) t1 Binary 0 (refused 17 0 0) e) refl
 
-pub shows-a-number-always : ((l : Layout) (s : List ℕ) (m n : ℕ) → check_file l s ≡ Yes → has_row l m ≡ true → 1 ≤ n → n ≤ l.analogs
-    → (z : ℤ) × (sample_at n (show_row l s m).row ≡ Is z))
+pub shows-a-number-always : ((l : Layout) (s : List ℕ) (m n : ℕ) → check_file l s ≡ Ok tt → has_row l m ≡ true → 1 ≤ n → n ≤ l.analogs
+    → (z : ℤ) × (channel_of n (show_row l s m) ≡ Ok (Some z)))
     → ⊥
 unfolding has_row
 shows-a-number-always f =
     let e = f (layout 1 0 1 Binary) no-sample 1 1 computed.4.0 refl (lit≤ tt) (lit≤ tt) in
-    let q : Missing ≡ Is e.0 = sym computed.4.1 ∙ e.1 in
+    let q : Ok None ≡ Ok (Some e.0) = sym computed.4.1 ∙ e.1 in
     clash (cc)
 
 pub repeats-the-sign : ((l : Layout) (s u : List ℕ) (room : ℕ) → l.kind ≡ Binary → change_said l s Binary32 room ≡ says u → get_or s 9 0 ≡ 0x80 → get_or u 11 0 ≡ 0xFF) → ⊥
 repeats-the-sign f = eqb-false 0x80 0xFF refl (f (layout 1 0 1 Binary) no-sample no-sample-wide 12 refl computed.4.2 refl)
 
-pub missing-fits-no-kind : ((l : Layout) (s : List ℕ) (k : Kind) (room : ℕ) → check_file l s ≡ Yes → sample_at 1 (show_row l s 1).row ≡ Missing
+pub missing-fits-no-kind : ((l : Layout) (s : List ℕ) (k : Kind) (room : ℕ) → check_file l s ≡ Ok tt → channel_of 1 (show_row l s 1) ≡ Ok None
     → (r : Refusal) × (change_said l s k room ≡ refuses r))
     → ⊥
 missing-fits-no-kind f =
@@ -412,7 +413,7 @@ missing-fits-no-kind f =
     let q : says no-sample-wide ≡ refuses e.0 = sym computed.4.2 ∙ e.1 in
     clash (cc)
 
-pub spaces-taken-for-missing : ((l : Layout) (s : List ℕ) → check_file l (quoted "1,0," ++ s) ≡ Yes → check_file l (quoted "1,0, " ++ s) ≡ Yes) → ⊥
+pub spaces-taken-for-missing : ((l : Layout) (s : List ℕ) → check_file l (quoted "1,0," ++ s) ≡ Ok tt → check_file l (quoted "1,0, " ++ s) ≡ Ok tt) → ⊥
 spaces-taken-for-missing f =
     yes-no (check_file (layout 1 0 1 Ascii) (quoted "1,0, \r\n")) (refused 14 1 3) (f (layout 1 0 1 Ascii) (quoted "\r\n") computed.4.4) computed.4.5
 
@@ -422,13 +423,13 @@ none-refused f =
     let q : says no-sample ≡ refuses e.0 = sym computed.4.8 ∙ e.1 in
     clash (cc)
 
-pub mark-a-number : ((l : Layout) → check_file l marked-text ≡ Yes → sample_at 1 (show_row l marked-text 1).row ≡ Is (pos 99999)) → ⊥
-mark-a-number f = let q : Missing ≡ Is (pos 99999) = sym computed.5.1 ∙ f (of-1999 1 0 1 Ascii) computed.5.0 in clash (cc)
+pub mark-a-number : ((l : Layout) → check_file l marked-text ≡ Ok tt → channel_of 1 (show_row l marked-text 1) ≡ Ok (Some (pos 99999))) → ⊥
+mark-a-number f = let q : Ok None ≡ Ok (Some (pos 99999)) = sym computed.5.1 ∙ f (of-1999 1 0 1 Ascii) computed.5.0 in clash (cc)
 
-pub mark-missing-under-2013 : ((l : Layout) → check_file l marked-text ≡ Yes → sample_at 1 (show_row l marked-text 1).row ≡ Missing) → ⊥
-mark-missing-under-2013 f = let q : Is (pos 99999) ≡ Missing = sym computed.5.3 ∙ f (layout 1 0 1 Ascii) computed.5.2 in clash (cc)
+pub mark-missing-under-2013 : ((l : Layout) → check_file l marked-text ≡ Ok tt → channel_of 1 (show_row l marked-text 1) ≡ Ok None) → ⊥
+mark-missing-under-2013 f = let q : Ok (Some (pos 99999)) ≡ Ok None = sym computed.5.3 ∙ f (layout 1 0 1 Ascii) computed.5.2 in clash (cc)
 
-pub empty-field-taken : ((a d rows : ℕ) (k : Kind) (s : List ℕ) → check_file (layout a d rows k) s ≡ Yes → check_file (of-1999 a d rows k) s ≡ Yes) → ⊥
+pub empty-field-taken : ((a d rows : ℕ) (k : Kind) (s : List ℕ) → check_file (layout a d rows k) s ≡ Ok tt → check_file (of-1999 a d rows k) s ≡ Ok tt) → ⊥
 empty-field-taken f =
     yes-no (check_file (of-1999 1 0 1 Ascii) (quoted "1,0,\r\n")) (refused 14 1 3) (f 1 0 1 Ascii (quoted "1,0,\r\n") computed.4.4) computed.5.4
 
@@ -438,52 +439,55 @@ edition-lost f =
     let w : marked-text ≡ no-sample-text = cc in
     differ marked-text no-sample-text 4 refl w
 
-pub missing-left-empty : ((l : Layout) (s u : List ℕ) (room : ℕ) → sample_at 1 (show_row l s 1).row ≡ Missing → change_said l s Ascii room ≡ says u → get_or u 4 0 ≡ 13) → ⊥
+pub missing-left-empty : ((l : Layout) (s u : List ℕ) (room : ℕ) → channel_of 1 (show_row l s 1) ≡ Ok None → change_said l s Ascii room ≡ says u → get_or u 4 0 ≡ 13) → ⊥
 missing-left-empty f = eqb-false 57 13 refl (f (of-1999 1 0 1 Ascii) marked-text marked-text 14 computed.5.1 computed.5.10)
 
-pub every-kind-taken : ((l : Layout) (s : List ℕ) (k : Kind) (room : ℕ) (r : Refusal) → check_file l s ≡ Yes → change_said l s k room ≡ refuses r → (r.number ≡ 10 → ⊥)) → ⊥
+pub every-kind-taken : ((l : Layout) (s : List ℕ) (k : Kind) (room : ℕ) (r : Refusal) → check_file l s ≡ Ok tt → change_said l s k room ≡ refuses r → (r.number ≡ 10 → ⊥)) → ⊥
 every-kind-taken f = f (of-1999 1 0 1 Ascii) marked-text Binary32 14 (refused 10 0 0) computed.5.0 computed.5.7 refl
 
 -- the recording of the rules as one of 1999
-pub last-lines-shown-as-zeros : (read_config recording1999).config.last ≡ last_with (pos 0) → ⊥
-last-lines-shown-as-zeros e = let q : Absent ≡ last_with (pos 0) = sym (ap (λ (a : ConfigAnswer). a.config.last) accepted-1999) ∙ e in clash (cc)
+pub last-lines-shown-as-zeros : (c : Config) → read_config recording1999 ≡ Ok c → c.last ≡ last_with (pos 0) → ⊥
+last-lines-shown-as-zeros c s e = let q : None ≡ last_with (pos 0) = ap (λ (c : Config). c.last) (one-shown (read_config recording1999) shows1999 c accepted-1999 s) ∙ e in clash (cc)
 
-pub year-1999-told-as-2013 : (read_config recording1999).config.layout.edition ≡ Y2013 → ⊥
-year-1999-told-as-2013 e = let q : Y1999 ≡ Y2013 = sym (ap (λ (a : ConfigAnswer). a.config.layout.edition) accepted-1999) ∙ e in clash (cc)
+pub year-1999-told-as-2013 : (c : Config) → read_config recording1999 ≡ Ok c → c.layout.edition ≡ Y2013 → ⊥
+year-1999-told-as-2013 c s e = let q : Y1999 ≡ Y2013 = ap (λ (c : Config). c.layout.edition) (one-shown (read_config recording1999) shows1999 c accepted-1999 s) ∙ e in clash (cc)
 
 -- the recording of the rules, with the time code -0h30
-pub minus-lost : (read_config (recording_with "03/02/2024" "-0h30,0")).config.last ≡ last_with (pos 30) → ⊥
-minus-lost e = let q : neg_ℤ (pos 30) ≡ pos 30 = ap code_in (sym recording-code ∙ e) in clash (cc q)
+pub minus-lost : (c : Config) → read_config (recording_with "03/02/2024" "-0h30,0") ≡ Ok c → c.last ≡ last_with (pos 30) → ⊥
+minus-lost c s e = let w : Ok c.last ≡ Ok (last_with (neg_ℤ (pos 30))) = sym (ap ends_of s) ∙ recording-code in
+    let v : c.last ≡ last_with (neg_ℤ (pos 30)) = cc in
+    let q : neg_ℤ (pos 30) ≡ pos 30 = ap code_in (sym v ∙ e) in
+    clash (cc q)
   where
-    code_in : Last → ℤ
-    code_in (Lines x) = x.code
-    code_in Absent = pos 0
+    code_in : Option LastLines → ℤ
+    code_in (Some x) = x.code
+    code_in None = pos 0
 
 -- the recording of the rules: its first sample is 1 ms before its trigger
-pub first-and-trigger-exchanged : ((read_config recording).config.first ≡ recorded_at 1_000_000) × ((read_config recording).config.trigger ≡ recorded_at 0) → ⊥
-first-and-trigger-exchanged (e, g) =
-    let q : recorded_at 0 ≡ recorded_at 1_000_000 = sym (ap (λ (a : ConfigAnswer). a.config.first) recording-accepted) ∙ e in
+pub first-and-trigger-exchanged : (c : Config) → read_config recording ≡ Ok c → (c.first ≡ recorded_at 1_000_000) × (c.trigger ≡ recorded_at 0) → ⊥
+first-and-trigger-exchanged c s (e, g) =
+    let q : recorded_at 0 ≡ recorded_at 1_000_000 = ap (λ (c : Config). c.first) (one-shown (read_config recording) recording_shows c recording-accepted s) ∙ e in
     eqb-false 0 1_000_000 refl (ap nanosecond_in q)
   where
-    nanosecond_in : Stamp → ℕ
-    nanosecond_in (At m) = m.time.nanosecond
+    nanosecond_in : Option Moment → ℕ
+    nanosecond_in (Some m) = m.time.nanosecond
     nanosecond_in None = 0
 
 -- the recording of the rules without a clock, and with a date of zeros beside a time of day
-pub zero-dates-refused : ((s : List ℕ) (c : Config) → read_config s ≡ record { answer = Yes; config = c } → c.first ≡ None → ⊥) → ⊥
+pub zero-dates-refused : ((s : List ℕ) (c : Config) → read_config s ≡ Ok c → c.first ≡ None → ⊥) → ⊥
 zero-dates-refused f = f no_clock no_clock_shows no-clock-accepted refl
 
-pub moment-told-where-none : (t : Moment) → (read_config no_clock).config.first ≡ At t → ⊥
-moment-told-where-none t e = let q : None ≡ At t = sym (ap (λ (a : ConfigAnswer). a.config.first) no-clock-accepted) ∙ e in clash (cc)
+pub moment-told-where-none : (c : Config) (t : Moment) → read_config no_clock ≡ Ok c → c.first ≡ Some t → ⊥
+moment-told-where-none c t s e = let q : None ≡ Some t = ap (λ (c : Config). c.first) (one-shown (read_config no_clock) no_clock_shows c no-clock-accepted s) ∙ e in clash (cc)
 
-pub time-told-where-unknown : (p : Span) → (read_config no_clock).config.pretrigger ≡ known.Is p → ⊥
-time-told-where-unknown p e = let q : known.Unknown ≡ known.Is p = sym (ap (λ (a : ConfigAnswer). a.config.pretrigger) no-clock-accepted) ∙ e in clash (cc)
+pub time-told-where-unknown : (c : Config) (p : Span) → read_config no_clock ≡ Ok c → c.pretrigger ≡ Some p → ⊥
+time-told-where-unknown c p s e = let q : None ≡ Some p = ap (λ (c : Config). c.pretrigger) (one-shown (read_config no_clock) no_clock_shows c no-clock-accepted s) ∙ e in clash (cc)
 
-pub zero-date-with-any-time : (read_config (recording_with "00/00/0000" "0,0")).answer ≡ Yes → ⊥
-zero-date-with-any-time e = yes-no (read_config (recording_with "00/00/0000" "0,0")).answer (refused 6 8 1) e (ap (λ (a : ConfigAnswer). a.answer) zero-date-refused)
+pub zero-date-with-any-time : (c : Config) → read_config (recording_with "00/00/0000" "0,0") ≡ Ok c → ⊥
+zero-date-with-any-time c e = yes-no (read_config (recording_with "00/00/0000" "0,0")) (refused 6 8 1) e zero-date-refused
 
-pub bad-time-told-at-the-time : (read_config (recording_with "00/00/0000" "0,0")).answer ≡ No (refused 6 8 2) → ⊥
-bad-time-told-at-the-time e = let q : refused 6 8 1 ≡ refused 6 8 2 = cc (sym (ap (λ (a : ConfigAnswer). a.answer) zero-date-refused) ∙ e) in eqb-false 1 2 refl (ap (λ (r : Refusal). r.field) q)
+pub bad-time-told-at-the-time : read_config (recording_with "00/00/0000" "0,0") ≡ Err (refused 6 8 2) → ⊥
+bad-time-told-at-the-time e = let q : refused 6 8 1 ≡ refused 6 8 2 = cc (sym zero-date-refused ∙ e) in eqb-false 1 2 refl (ap (λ (r : Refusal). r.field) q)
 
 no-time-beside : date_line (quoted "00/00/0000,x") ≡ refuses (fault 6 1)
 unfolding date_line field_count after_fields field_at read_date is_zero_date date_of fits_pattern fits_character digits_at number_of is_digit read_time time_form length_in
@@ -492,8 +496,8 @@ no-time-beside = refl
 pub five-beside-no-date : date_line (quoted "00/00/0000,x") ≡ refuses (fault 5 2) → ⊥
 five-beside-no-date e = let q : fault 6 1 ≡ fault 5 2 = cc (sym no-time-beside ∙ e) in eqb-false 6 5 refl (ap (λ (f : Fault). f.number) q)
 
-pub half-zero-date-taken : (read_config (recording_with "00/02/2024" "0,0")).answer ≡ Yes → ⊥
-half-zero-date-taken e = yes-no (read_config (recording_with "00/02/2024" "0,0")).answer (refused 6 8 1) e (ap (λ (a : ConfigAnswer). a.answer) half-zero-refused)
+pub half-zero-date-taken : (c : Config) → read_config (recording_with "00/02/2024" "0,0") ≡ Ok c → ⊥
+half-zero-date-taken c e = yes-no (read_config (recording_with "00/02/2024" "0,0")) (refused 6 8 1) e half-zero-refused
 
 -- the recording of the rules, whose kind is ASCII, written as binary
 binary-written : (w : List ℕ) × (rewrite_said recording Binary 172 ≡ says w)
@@ -504,10 +508,8 @@ binary-written =
     (w, (rewritten-exactly recording Binary 172 w).1 (recording_shows, recording-configuration, refl, refl, omega arith, long))
 
 -- it shows binary
-binary-shown : (read_config binary-written.0).config.layout.kind ≡ Binary
-unfolding with_kind
-binary-shown =
-    ap (λ (a : ConfigAnswer). a.config.layout.kind) (written-accepted recording recording_shows recording-configuration Binary 172 binary-written.0 binary-written.1).1
+binary-shown : read_config binary-written.0 ≡ Ok (with_kind Binary recording_shows)
+binary-shown = (written-accepted recording recording_shows recording-configuration Binary 172 binary-written.0 binary-written.1).1
 
 pub refuses-every-writing : ((s : List ℕ) (k : Kind) (room : ℕ) → (r : Refusal) × (rewrite_said s k room ≡ refuses r)) → ⊥
 refuses-every-writing h =
@@ -515,15 +517,15 @@ refuses-every-writing h =
     let q : says binary-written.0 ≡ refuses b.0 = sym binary-written.1 ∙ b.1 in
     clash (cc)
 
-pub shows-the-old-kind : ((s w : List ℕ) (k : Kind) (room : ℕ) → rewrite_said s k room ≡ says w → (read_config w).config.layout.kind ≡ (read_config s).config.layout.kind) → ⊥
+pub shows-the-old-kind : ((s w : List ℕ) (k : Kind) (room : ℕ) (b c : Config) → rewrite_said s k room ≡ says w → read_config s ≡ Ok b → read_config w ≡ Ok c → c.layout.kind ≡ b.layout.kind) → ⊥
+unfolding with_kind
 shows-the-old-kind h =
-    let old : (read_config recording).config.layout.kind ≡ Ascii
-    = ap (λ (a : ConfigAnswer). a.config.layout.kind) ((config-exactly recording recording_shows).1 recording-configuration) in
-    let q : Binary ≡ Ascii = sym binary-shown ∙ h recording binary-written.0 Binary 172 binary-written.1 ∙ old in
+    let q : Binary ≡ Ascii = h recording binary-written.0 Binary 172 recording_shows (with_kind Binary recording_shows) binary-written.1 recording-accepted binary-shown in
     clash (cc)
 
 pub copies-the-configuration : ((s w : List ℕ) (k : Kind) (room : ℕ) → rewrite_said s k room ≡ says w → w ≡ s) → ⊥
-copies-the-configuration h = shows-the-old-kind (λ s w k room e. ap (λ (x : List ℕ). (read_config x).config.layout.kind) (h s w k room e))
+copies-the-configuration h =
+    shows-the-old-kind (λ s w k room b c e f g. ap (λ (x : Config). x.layout.kind) (one-shown (read_config w) c b g (ap read_config (h s w k room e) ∙ f)))
 
 pub asks-for-more-room : ((s w : List ℕ) (k : Kind) (room : ℕ) → rewrite_said s k room ≡ says w → length w < room) → ⊥
 asks-for-more-room h =

@@ -20,10 +20,7 @@ use Rattle.ground.proofs.Cases.{clash}
 use Rattle.clock.specs.declared.Date.{Date}
 use Rattle.clock.specs.declared.Span.{Span}
 use Rattle.clock.specs.declared.Moment.{Moment}
-use Rattle.clock.specs.declared.Stamp.{Stamp}
-use Rattle.clock.specs.declared.Stamp.TheVariants.{At, None}
-use Rattle.clock.specs.declared.Pretrigger.{Pretrigger}
-use Rattle.clock.specs.declared.Pretrigger.TheVariants.{Is}
+use Rattle.std.proofs.Common.{None, Option, Some}
 use Rattle.clock.specs.Dates as clock
 use Rattle.clock.specs.Dates.{valid_date, days_of_months}
 use Rattle.clock.specs.Times.{valid_time, second_of_day}
@@ -128,10 +125,10 @@ module _ (first trigger : Moment) (first_date : valid_date first.date ≡ true) 
   pub pretrigger-exactly : (p : Span) → pre_trigger first.date first.time trigger.date trigger.time ≡ p ↔ PreTrigger first trigger p
   pretrigger-exactly p = (pre-to p, pre-from p)
 
-pub between-exactly : (first trigger : Stamp) → Calendar first → Calendar trigger → (p : Pretrigger) → pretrigger_of first trigger ≡ p ↔ Between first trigger p
+pub between-exactly : (first trigger : Option Moment) → Calendar first → Calendar trigger → (p : Option Span) → pretrigger_of first trigger ≡ p ↔ Between first trigger p
 unfolding pretrigger_of
-between-exactly (At a) (At b) h g p =
+between-exactly (Some a) (Some b) h g p =
     let w = pretrigger-exactly a b h.0 h.1 g.0 g.1 in
-    (λ e. (_, sym e, (w _).0 refl), λ (d, q, k). ap Is ((w d).1 k) ∙ sym q)
-between-exactly (At a) None h g p = (λ e. sym e, λ e. sym e)
+    (λ e. (_, sym e, (w _).0 refl), λ (d, q, k). ap Some ((w d).1 k) ∙ sym q)
+between-exactly (Some a) None h g p = (λ e. sym e, λ e. sym e)
 between-exactly None b h g p = (λ e. sym e, λ e. sym e)

@@ -21,12 +21,12 @@ use Rattle.ground.specs.Quoted.{quoted}
 use Rattle.ground.specs.Tables.{tab}
 use Rattle.ground.proofs.Cases.{on_test, clash}
 use Rattle.ground.proofs.Walk.{first, done}
-use Rattle.fields.specs.declared.Field.{Field}
-use Rattle.fields.specs.declared.Field.TheVariants.{Is, Form, Range}
+use Rattle.std.proofs.Common.{Err, Ok, Result}
+use Rattle.numerals.specs.declared.FieldError.{FieldError}
+use Rattle.numerals.specs.declared.FieldError.TheVariants.{Form, Range}
 use Rattle.fields.specs.Fields.{is_among, read_one_of, digit_value, read_digit_of, read_state, read_side, read_quality, read_leap}
 use Rattle.paper.specs.Fields.{HexDigit, QualityField, LeapField}
 use Rattle.exact.proofs.AnswerLaws.{Reads, value-told, form-told, range_none}
-use Rattle.exact.proofs.FieldLaws.{fields, fields-apart}
 
 -- one character is the first and nothing after it
 one-alone : (l : List ℕ) → length l ≡ 1 → l ≡ get_or l 0 0 ∷ []
@@ -37,37 +37,35 @@ abbrev One : List ℕ → Type 0
 One f = (b : ℕ) × (f ≡ b ∷ [])
 
 -- what is proved of a reader of one character of those allowed, each worth so much
-abbrev Character : List ℕ → (ℕ → ℕ) → List ℕ → Field → Type 0
-Character allowed worth f answer = Reads fields answer (One f) (λ a. worth a.0) (λ a. is_among a.0 allowed ≡ true)
+abbrev Character : List ℕ → (ℕ → ℕ) → List ℕ → Result ℕ FieldError → Type 0
+Character allowed worth f answer = Reads answer (One f) (λ a. worth a.0) (λ a. is_among a.0 allowed ≡ true)
 
-one-said : (allowed : List ℕ) (b : ℕ) (f : List ℕ) → f ≡ b ∷ [] → read_one_of allowed f ≡ (if is_among b allowed then Is b else Range)
+one-said : (allowed : List ℕ) (b : ℕ) (f : List ℕ) → f ≡ b ∷ [] → read_one_of allowed f ≡ (if is_among b allowed then Ok b else Err Range)
 unfolding read_one_of
 one-said allowed b f e = rw e
 
-one-cases : (allowed f : List ℕ) → (read_one_of allowed f ≡ Form) ⊎ One f
+one-cases : (allowed f : List ℕ) → (read_one_of allowed f ≡ Err Form) ⊎ One f
 unfolding read_one_of
 one-cases allowed f = on_test (eqb (length f) 1) (λ t. inr (get_or f 0 0, one-alone f (eqb-true (length f) 1 t))) (λ t. inl (rw t))
 
 one-character : (allowed f : List ℕ) → Character allowed (λ b. b) f (read_one_of allowed f)
 one-character allowed f = record {
-  apart = fields-apart;
   test = λ a. is_among a.0 allowed;
   fair = λ a. (λ e. e, λ e. e);
   told = λ a. one-said allowed a.0 f a.1;
   cases = one-cases allowed f;
 }
 
-digit-said : (allowed : List ℕ) (b : ℕ) (f : List ℕ) → f ≡ b ∷ [] → read_digit_of allowed f ≡ (if is_among b allowed then Is (digit_value b) else Range)
+digit-said : (allowed : List ℕ) (b : ℕ) (f : List ℕ) → f ≡ b ∷ [] → read_digit_of allowed f ≡ (if is_among b allowed then Ok (digit_value b) else Err Range)
 unfolding read_digit_of
 digit-said allowed b f e = rw (one-said allowed b f e) (on_test (is_among b allowed) (λ t. rw t) (λ t. rw t))
 
-digit-cases : (allowed f : List ℕ) → (read_digit_of allowed f ≡ Form) ⊎ One f
+digit-cases : (allowed f : List ℕ) → (read_digit_of allowed f ≡ Err Form) ⊎ One f
 unfolding read_digit_of
 digit-cases allowed f = ⊎_elim (λ e. inl (rw e)) inr (one-cases allowed f)
 
 digit-character : (allowed f : List ℕ) → Character allowed digit_value f (read_digit_of allowed f)
 digit-character allowed f = record {
-  apart = fields-apart;
   test = λ a. is_among a.0 allowed;
   fair = λ a. (λ e. e, λ e. e);
   told = λ a. digit-said allowed a.0 f a.1;
@@ -122,30 +120,30 @@ digit-small : (v : ℕ) → 10 ≤ v → v ≤ 15 → digit_value (87 + v) ≡ v
 unfolding digit_value
 digit-small v h k = rw (le-ltb (87 + v) 58 (omega arith), le-ltb (87 + v) 71 (omega arith)) (omega arith)
 
-module _ (allowed : List ℕ) (worth : ℕ → ℕ) (f : List ℕ) (answer : Field) (d : Character allowed worth f answer) where
-  one_told : (v : ℕ) → answer ≡ Is v ↔ ((a : One f) × (is_among a.0 allowed ≡ true) × (worth a.0 ≡ v))
-  one_told v = value-told fields answer (One f) (λ a. worth a.0) (λ a. is_among a.0 allowed ≡ true) d v
+module _ (allowed : List ℕ) (worth : ℕ → ℕ) (f : List ℕ) (answer : Result ℕ FieldError) (d : Character allowed worth f answer) where
+  one_told : (v : ℕ) → answer ≡ Ok v ↔ ((a : One f) × (is_among a.0 allowed ≡ true) × (worth a.0 ≡ v))
+  one_told v = value-told d v
 
-  one_form : answer ≡ Form ↔ ((b : ℕ) → f ≡ b ∷ [] → ⊥)
+  one_form : answer ≡ Err Form ↔ ((b : ℕ) → f ≡ b ∷ [] → ⊥)
   one_form =
-      let w = form-told fields answer (One f) (λ a. worth a.0) (λ a. is_among a.0 allowed ≡ true) d in
+      let w = form-told d in
       (λ e b t. w.0 e (b, t), λ n. w.1 (λ a. n a.0 a.1))
 
-  one-range : (P : ℕ → Type 0) → ((v : ℕ) → answer ≡ Is v ↔ P v) → answer ≡ Range ↔ ((b : ℕ) × (f ≡ b ∷ []) × ((v : ℕ) → P v → ⊥))
+  one-range : (P : ℕ → Type 0) → ((v : ℕ) → answer ≡ Ok v ↔ P v) → answer ≡ Err Range ↔ ((b : ℕ) × (f ≡ b ∷ []) × ((v : ℕ) → P v → ⊥))
   one-range P exactly =
-      let w = range_none fields answer (One f) (λ a. worth a.0) (λ a. is_among a.0 allowed ≡ true) d P exactly in
+      let w = range_none d P exactly in
       (λ e. let (a, n) = w.0 e in (a.0, a.1, n), λ h. w.1 ((h.0, h.1), h.2))
 
   -- where it does not matter which of the characters it is
-  any_told : (P : List ℕ → Type 0) → Each (λ b. P (b ∷ [])) allowed → (P f → (b : ℕ) × (f ≡ b ∷ []) × (is_among b allowed ≡ true)) → ((v : ℕ) × (answer ≡ Is v)) ↔ P f
+  any_told : (P : List ℕ → Type 0) → Each (λ b. P (b ∷ [])) allowed → (P f → (b : ℕ) × (f ≡ b ∷ []) × (is_among b allowed ≡ true)) → ((v : ℕ) × (answer ≡ Ok v)) ↔ P f
   any_told P each known = (
     λ (v, e). let (a, m, s) = (one_told v).0 e in subst P (sym a.1) (among-each (λ b. P (b ∷ [])) a.0 allowed each m),
     λ p. let (b, t, m) = known p in (worth b, (one_told (worth b)).1 ((b, t), m, refl)),
   )
 
-  any-range : (P : Type 0) → ((v : ℕ) × (answer ≡ Is v)) ↔ P → answer ≡ Range ↔ ((b : ℕ) × (f ≡ b ∷ []) × (P → ⊥))
+  any-range : (P : Type 0) → ((v : ℕ) × (answer ≡ Ok v)) ↔ P → answer ≡ Err Range ↔ ((b : ℕ) × (f ≡ b ∷ []) × (P → ⊥))
   any-range P exactly =
-      let w = one-range (λ v. answer ≡ Is v) (λ v. (λ e. e, λ e. e)) in (
+      let w = one-range (λ v. answer ≡ Ok v) (λ v. (λ e. e, λ e. e)) in (
         λ e. let (b, t, n) = w.0 e in (b, t, λ p. let (v, q) = exactly.1 p in n v q),
         λ (b, t, n). w.1 (b, t, λ v q. n (exactly.0 (v, q))),
       )
@@ -198,17 +196,17 @@ module _ (f : List ℕ) where
   unfolding Known
   quality-to q b e (h, o) s = record { digit = b; text = e; worth = rw (← s) h; known = rw (← s) o }
 
-  pub quality-exactly : (q : ℕ) → read_quality f ≡ Is q ↔ QualityField q f
+  pub quality-exactly : (q : ℕ) → read_quality f ≡ Ok q ↔ QualityField q f
   quality-exactly q =
       let w = one_told (quoted "0123456789ABFabf") digit_value f (read_quality f) quality-character q in (
         λ e. let (a, m, s) = w.0 e in quality-to q a.0 a.1 (among-each Known a.0 (quoted "0123456789ABFabf") known-each m) s,
         λ x. w.1 ((x.digit, x.text), quality-among q x.digit x.worth x.known, hex-worth q x.digit x.worth),
       )
 
-  pub quality-form : read_quality f ≡ Form ↔ ((b : ℕ) → f ≡ b ∷ [] → ⊥)
+  pub quality-form : read_quality f ≡ Err Form ↔ ((b : ℕ) → f ≡ b ∷ [] → ⊥)
   quality-form = one_form (quoted "0123456789ABFabf") digit_value f (read_quality f) quality-character
 
-  pub quality-range : read_quality f ≡ Range ↔ ((b : ℕ) × (f ≡ b ∷ []) × ((q : ℕ) → QualityField q f → ⊥))
+  pub quality-range : read_quality f ≡ Err Range ↔ ((b : ℕ) × (f ≡ b ∷ []) × ((q : ℕ) → QualityField q f → ⊥))
   quality-range = one-range (quoted "0123456789ABFabf") digit_value f (read_quality f) quality-character (λ q. QualityField q f) quality-exactly
 
 -- a leap second code's digit
@@ -231,17 +229,17 @@ module _ (f : List ℕ) where
   unfolding Leap
   leap-to p b e (h, o) s = record { text = e ∙ ap (λ (c : ℕ). c ∷ []) (h ∙ ap (λ (v : ℕ). 48 + v) s); known = rw (← s) o }
 
-  pub leap-exactly : (p : ℕ) → read_leap f ≡ Is p ↔ LeapField p f
+  pub leap-exactly : (p : ℕ) → read_leap f ≡ Ok p ↔ LeapField p f
   leap-exactly p =
       let w = one_told (quoted "0123") digit_value f (read_leap f) leap-character p in (
         λ e. let (a, m, s) = w.0 e in leap-to p a.0 a.1 (among-each Leap a.0 (quoted "0123") leap-each m) s,
         λ x. let k = x.known in w.1 ((48 + p, x.text), among-digits 4 p (omega arith), digit_low p (omega arith)),
       )
 
-  pub leap-form : read_leap f ≡ Form ↔ ((b : ℕ) → f ≡ b ∷ [] → ⊥)
+  pub leap-form : read_leap f ≡ Err Form ↔ ((b : ℕ) → f ≡ b ∷ [] → ⊥)
   leap-form = one_form (quoted "0123") digit_value f (read_leap f) leap-character
 
-  pub leap-range : read_leap f ≡ Range ↔ ((b : ℕ) × (f ≡ b ∷ []) × ((p : ℕ) → LeapField p f → ⊥))
+  pub leap-range : read_leap f ≡ Err Range ↔ ((b : ℕ) × (f ≡ b ∷ []) × ((p : ℕ) → LeapField p f → ⊥))
   leap-range = one-range (quoted "0123") digit_value f (read_leap f) leap-character (λ p. LeapField p f) leap-exactly
 
 -- p P s S
@@ -259,13 +257,13 @@ module _ (f : List ℕ) where
   side-from (inr (inr (inl e))) = (115, e, refl)
   side-from (inr (inr (inr e))) = (83, e, refl)
 
-  pub side-exactly : ((b : ℕ) × (read_side f ≡ Is b)) ↔ ((f ≡ quoted "p") ⊎ ((f ≡ quoted "P") ⊎ ((f ≡ quoted "s") ⊎ (f ≡ quoted "S"))))
+  pub side-exactly : ((b : ℕ) × (read_side f ≡ Ok b)) ↔ ((f ≡ quoted "p") ⊎ ((f ≡ quoted "P") ⊎ ((f ≡ quoted "s") ⊎ (f ≡ quoted "S"))))
   side-exactly = any_told (quoted "pPsS") (λ b. b) f (read_side f) side-character Side (inl refl, (inr (inl refl), (inr (inr (inl refl)), (inr (inr (inr refl)), tt)))) side-from
 
-  pub side-form : read_side f ≡ Form ↔ ((b : ℕ) → f ≡ b ∷ [] → ⊥)
+  pub side-form : read_side f ≡ Err Form ↔ ((b : ℕ) → f ≡ b ∷ [] → ⊥)
   side-form = one_form (quoted "pPsS") (λ b. b) f (read_side f) side-character
 
-  pub side-range : read_side f ≡ Range ↔ ((b : ℕ) × (f ≡ b ∷ []) × ((f ≡ quoted "p") ⊎ ((f ≡ quoted "P") ⊎ ((f ≡ quoted "s") ⊎ (f ≡ quoted "S"))) → ⊥))
+  pub side-range : read_side f ≡ Err Range ↔ ((b : ℕ) × (f ≡ b ∷ []) × ((f ≡ quoted "p") ⊎ ((f ≡ quoted "P") ⊎ ((f ≡ quoted "s") ⊎ (f ≡ quoted "S"))) → ⊥))
   side-range = any-range (quoted "pPsS") (λ b. b) f (read_side f) side-character (Side f) side-exactly
 
 -- 0 or 1
@@ -281,11 +279,11 @@ module _ (f : List ℕ) where
   state-from (inl e) = (48, e, refl)
   state-from (inr e) = (49, e, refl)
 
-  pub state-exactly : ((v : ℕ) × (read_state f ≡ Is v)) ↔ ((f ≡ quoted "0") ⊎ (f ≡ quoted "1"))
+  pub state-exactly : ((v : ℕ) × (read_state f ≡ Ok v)) ↔ ((f ≡ quoted "0") ⊎ (f ≡ quoted "1"))
   state-exactly = any_told (quoted "01") digit_value f (read_state f) state-character State (inl refl, (inr refl, tt)) state-from
 
-  pub state-form : read_state f ≡ Form ↔ ((b : ℕ) → f ≡ b ∷ [] → ⊥)
+  pub state-form : read_state f ≡ Err Form ↔ ((b : ℕ) → f ≡ b ∷ [] → ⊥)
   state-form = one_form (quoted "01") digit_value f (read_state f) state-character
 
-  pub state-range : read_state f ≡ Range ↔ ((b : ℕ) × (f ≡ b ∷ []) × ((f ≡ quoted "0") ⊎ (f ≡ quoted "1") → ⊥))
+  pub state-range : read_state f ≡ Err Range ↔ ((b : ℕ) × (f ≡ b ∷ []) × ((f ≡ quoted "0") ⊎ (f ≡ quoted "1") → ⊥))
   state-range = any-range (quoted "01") digit_value f (read_state f) state-character (State f) state-exactly

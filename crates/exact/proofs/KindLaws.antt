@@ -25,12 +25,12 @@ use Rattle.model.specs.declared.Kind.TheVariants.{Ascii, Binary, Binary32}
 use Rattle.model.specs.declared.Edition.{Edition}
 use Rattle.model.specs.declared.Edition.TheVariants.{Y2013, Y1999}
 use Rattle.model.specs.Editions.{has_kind}
-use Rattle.fields.specs.declared.KindField.{KindField}
-use Rattle.fields.specs.declared.KindField.TheVariants.{Is, Form, Range}
+use Rattle.std.proofs.Common.{Err, Ok}
+use Rattle.numerals.specs.declared.FieldError.TheVariants.{Form, Range}
 use Rattle.fields.specs.Fields.{small, same_word, read_kind}
 use Rattle.fields.proofs.Laws.{other_length}
 use Rattle.paper.specs.Fields.{TextField, is_between, lowered, KindWord}
-use Rattle.exact.proofs.AnswerLaws.{Answers, Apart, Reads, value-told, form-told, range_none}
+use Rattle.exact.proofs.AnswerLaws.{Reads, value-told, form-told, range_none}
 
 small_is : (b : ℕ) → small b ≡ (if is_between 65 90 b then b + 32 else b)
 unfolding small
@@ -60,13 +60,6 @@ word-from w l e = rw (← e) (word-lowered l)
 lowered_long : (l : List ℕ) → length (lowered l) ≡ length l
 lowered_long [] = refl
 lowered_long (b ∷ l) = ap suc (lowered_long l)
-
--- the answers of a reader of kinds
-abbrev kinds : Answers Kind KindField
-kinds = record { is = Is; form = Form; range = Range }
-
-kinds-apart : Apart kinds
-kinds-apart = record { values = λ x y e. cc; from_form = λ x e. clash (cc); from_range = λ x e. clash (cc); faults = λ e. clash (cc) }
 
 module _ (f : List ℕ) where
   -- it is one of the words
@@ -99,7 +92,7 @@ module _ (f : List ℕ) where
       let u = other_length (quoted "binary") f (λ e. omega arith) in
       (record { long = omega arith; short = omega arith }, rw (t, u) (word-from (quoted "binary32") f w), rw (t, u))
 
-  kind-said : TextField 5 8 f → read_kind f ≡ (if is_word then Is word_kind else Range)
+  kind-said : TextField 5 8 f → read_kind f ≡ (if is_word then Ok word_kind else Err Range)
   unfolding read_kind
   kind-said h =
       rw (length-is 5 8 f h.long h.short)
@@ -107,26 +100,26 @@ module _ (f : List ℕ) where
       on_test (same_word (quoted "binary") f) (λ u. rw (t, u)) (λ u.
       on_test (same_word (quoted "binary32") f) (λ v. rw (t, u, v)) (λ v. rw (t, u, v)))))
 
-  kind-cases : (read_kind f ≡ Form) ⊎ TextField 5 8 f
+  kind-cases : (read_kind f ≡ Err Form) ⊎ TextField 5 8 f
   unfolding read_kind
   kind-cases =
       on_test (length_in 5 8 f)
       (λ t. let b = length-bounds 5 8 f t in inr (record { long = b.0; short = b.1 }))
       (λ t. inl (rw t))
 
-  kind-reads : Reads kinds (read_kind f) (TextField 5 8 f) (λ a. word_kind) (λ a. is_word ≡ true)
-  kind-reads = record { apart = kinds-apart; test = λ a. is_word; fair = λ a. (λ e. e, λ e. e); told = kind-said; cases = kind-cases }
+  kind-reads : Reads (read_kind f) (TextField 5 8 f) (λ a. word_kind) (λ a. is_word ≡ true)
+  kind-reads = record { test = λ a. is_word; fair = λ a. (λ e. e, λ e. e); told = kind-said; cases = kind-cases }
 
-  pub kind-exactly : (k : Kind) → read_kind f ≡ Is k ↔ KindWord k f
+  pub kind-exactly : (k : Kind) → read_kind f ≡ Ok k ↔ KindWord k f
   kind-exactly k =
-      let w = value-told kinds (read_kind f) (TextField 5 8 f) (λ a. word_kind) (λ a. is_word ≡ true) kind-reads k in
+      let w = value-told kind-reads k in
       (λ e. let (a, t, q) = w.0 e in subst (λ (x : Kind). KindWord x f) q (word-kind t), λ h. w.1 (kind-word k h))
 
-  pub kind-form : read_kind f ≡ Form ↔ (TextField 5 8 f → ⊥)
-  kind-form = form-told kinds (read_kind f) (TextField 5 8 f) (λ a. word_kind) (λ a. is_word ≡ true) kind-reads
+  pub kind-form : read_kind f ≡ Err Form ↔ (TextField 5 8 f → ⊥)
+  kind-form = form-told kind-reads
 
-  pub kind-range : read_kind f ≡ Range ↔ (TextField 5 8 f × ((k : Kind) → KindWord k f → ⊥))
-  kind-range = range_none kinds (read_kind f) (TextField 5 8 f) (λ a. word_kind) (λ a. is_word ≡ true) kind-reads (λ k. KindWord k f) kind-exactly
+  pub kind-range : read_kind f ≡ Err Range ↔ (TextField 5 8 f × ((k : Kind) → KindWord k f → ⊥))
+  kind-range = range_none kind-reads (λ k. KindWord k f) kind-exactly
 
 pub has-exactly : (e : Edition) (k : Kind) → has_kind e k ≡ true ↔ (e ≡ Y1999 → k ≡ Binary32 → ⊥)
 unfolding has_kind

@@ -21,8 +21,10 @@ use Rattle.ground.specs.Said.{Said, says, refuses}
 use Rattle.ground.specs.Quoted.{quoted}
 use Rattle.ground.proofs.Cases.{on_test, clash}
 use Rattle.ground.proofs.SaidLaws.{bind-told}
-use Rattle.text.specs.declared.Scanned.{Scanned}
-use Rattle.text.specs.declared.Scanned.TheVariants as scan
+use Rattle.std.proofs.Common.{Err, Ok, Result}
+use Rattle.text.specs.declared.Line as text
+use Rattle.text.specs.declared.LineError.{LineError}
+use Rattle.text.specs.declared.LineError.TheVariants.{Bad, Ends}
 use Rattle.text.specs.Lines.{line_from, scan_line, or_all, scan_last_line, line_bytes}
 use Rattle.text.proofs.LineLaws.{line-found, last-line-found, line-ended, bytes-passed, line-scanned}
 use Rattle.line_fields.specs.declared.Fault.{Fault}
@@ -92,19 +94,21 @@ abbrev pub LastEnd : List ℕ → List ℕ → Type 0
 LastEnd e u = (e ≡ quoted "\r\n") ⊎ ((e ≡ []) × (u ≡ []))
 
 -- the last line, as it is scanned
-or-all : (m : ℕ) (r : Scanned) (n t : ℕ) → or_all m r ≡ scan.Line n t → (r ≡ scan.Line n t) ⊎ ((n ≡ m) × (t ≡ m))
-or-all m (scan.Line k j) n t e = inl e
-or-all m scan.Ends n t e = inr (cc, cc)
-or-all m scan.Bad n t e = clash (cc)
+or-all : (m : ℕ) (r : Result text.Line LineError) (n t : ℕ) → or_all m r ≡ Ok (record { len = n; taken = t }) → (r ≡ Ok (record { len = n; taken = t })) ⊎ ((n ≡ m) × (t ≡ m))
+or-all m (Ok one) n t e = inl e
+or-all m (Err Ends) n t e =
+    let w : ◌≡◌ {A = text.Line} (record { len = n; taken = t }) (record { len = m; taken = m }) = cc in
+    inr (ap (λ (x : text.Line). x.len) w, ap (λ (x : text.Line). x.taken) w)
+or-all m (Err Bad) n t e = clash (cc)
 
-last-cases : (s : List ℕ) (m t : ℕ) → scan_last_line (length s) s ≡ scan.Line m t → (scan_line (length s) s ≡ scan.Line m t) ⊎ ((m ≡ length s) × (t ≡ length s))
+last-cases : (s : List ℕ) (m t : ℕ) → scan_last_line (length s) s ≡ Ok (record { len = m; taken = t }) → (scan_line (length s) s ≡ Ok (record { len = m; taken = t })) ⊎ ((m ≡ length s) × (t ≡ length s))
 unfolding scan_last_line
 last-cases s m t e =
     on_test (eqb (length s) 0)
-    (λ q. let x : scan.Ends ≡ scan.Line m t = rw q at e in clash (cc))
+    (λ q. let x : Err Ends ≡ Ok (record { len = m; taken = t }) = rw q at e in clash (cc))
     (λ q. or-all (length s) (scan_line (length s) s) m t (rw q at e))
 
-last-parts : (s : List ℕ) (m t : ℕ) (u : List ℕ) → (scan_line (length s) s ≡ scan.Line m t) ⊎ ((m ≡ length s) × (t ≡ length s)) → drop t s ≡ u
+last-parts : (s : List ℕ) (m t : ℕ) (u : List ℕ) → (scan_line (length s) s ≡ Ok (record { len = m; taken = t })) ⊎ ((m ≡ length s) × (t ≡ length s)) → drop t s ≡ u
     → (e : List ℕ) × (s ≡ take m s ++ (e ++ u)) × LastEnd e u
 last-parts s m t u (inl f) q = (13 ∷ 10 ∷ [], sym (line-ended (length s) m t s f) ∙ ap (λ (z : List ℕ). take m s ++ 13 ∷ 10 ∷ z) q, inl refl)
 last-parts s m t u (inr f) q =
@@ -112,12 +116,12 @@ last-parts s m t u (inr f) q =
     let w : take m s ≡ s = ap (λ (k : ℕ). take k s) f.0 ∙ take-length s in
     ([], sym (append-nil s) ∙ ap (λ (x : List ℕ). x ++ []) (sym w) ∙ ap (◌++◌ (take m s)) (sym z), inr (refl, z))
 
-bytes-end : (x : List ℕ) → line_bytes x ≡ true → scan_line (length x) x ≡ scan.Ends
+bytes-end : (x : List ℕ) → line_bytes x ≡ true → scan_line (length x) x ≡ Err Ends
 unfolding scan_line
 bytes-end x h = ap (line_from (length x) 0) (sym (append-nil x)) ∙ bytes-passed (length x) 0 x [] h (omega arith)
 
 last-scanned : (l e u : List ℕ) → line_bytes l ≡ true → 1 ≤ length l → LastEnd e u
-    → (t : ℕ) × (scan_last_line (length (l ++ (e ++ u))) (l ++ (e ++ u)) ≡ scan.Line (length l) t) × (drop t (l ++ (e ++ u)) ≡ u)
+    → (t : ℕ) × (scan_last_line (length (l ++ (e ++ u))) (l ++ (e ++ u)) ≡ Ok (record { len = length l; taken = t })) × (drop t (l ++ (e ++ u)) ≡ u)
 unfolding scan_last_line
 last-scanned l e u h k (inl q) =
     let s = l ++ 13 ∷ 10 ∷ u in
@@ -133,15 +137,15 @@ in-line-told n p q a (refuses f) e = clash (cc)
 
 -- a line of which a rule says a exactly where it is P a
 module _ {A : Type 0} (rule : List ℕ → Said Fault A) (P : A → List ℕ → Type 0) (exactly : (a : A) (l : List ℕ) → rule l ≡ says a ↔ P a l) where
-  scanned-told : (n : ℕ) (s : List ℕ) (a : A) (k : ℕ) (u : List ℕ) (f : Scanned) → scanned rule (n, s) f ≡ says (a, (k, u))
-      → (m : ℕ) × (t : ℕ) × (f ≡ scan.Line m t) × P a (take m s) × (drop t s ≡ u)
-  scanned-told n s a k u (scan.Line m t) e =
-      let (h, q) = in-line-told n (n + 1, drop t s) (k, u) a (rule (take m s)) e in
-      (m, t, refl, (exactly a (take m s)).0 h, ap (λ (z : Place). z.1) q)
-  scanned-told n s a k u scan.Ends e = clash (cc)
-  scanned-told n s a k u scan.Bad e = clash (cc)
+  scanned-told : (n : ℕ) (s : List ℕ) (a : A) (k : ℕ) (u : List ℕ) (f : Result text.Line LineError) → scanned rule (n, s) f ≡ says (a, (k, u))
+      → (m : ℕ) × (t : ℕ) × (f ≡ Ok (record { len = m; taken = t })) × P a (take m s) × (drop t s ≡ u)
+  scanned-told n s a k u (Ok one) e =
+      let (h, q) = in-line-told n (n + 1, drop one.taken s) (k, u) a (rule (take one.len s)) e in
+      (one.len, one.taken, refl, (exactly a (take one.len s)).0 h, ap (λ (z : Place). z.1) q)
+  scanned-told n s a k u (Err Ends) e = clash (cc)
+  scanned-told n s a k u (Err Bad) e = clash (cc)
 
-  scanned-says : (n : ℕ) (s : List ℕ) (a : A) (l u : List ℕ) (t : ℕ) (f : Scanned) → f ≡ scan.Line (length l) t → take (length l) s ≡ l → drop t s ≡ u → P a l
+  scanned-says : (n : ℕ) (s : List ℕ) (a : A) (l u : List ℕ) (t : ℕ) (f : Result text.Line LineError) → f ≡ Ok (record { len = length l; taken = t }) → take (length l) s ≡ l → drop t s ≡ u → P a l
       → scanned rule (n, s) f ≡ says (a, (n + 1, u))
   scanned-says n s a l u t f e q r p = rw (e, q, r, (exactly a l).1 p)
 

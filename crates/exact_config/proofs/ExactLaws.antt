@@ -7,26 +7,27 @@
 --     last-lines-read      the time multiplier and what follows it, by the edition
 --     config-reads         what is read whole is a configuration, and the other way round
 --     config-exactly       the bytes s are accepted and show c exactly when they are a configuration that shows c
---     config-refused       they are refused, with zeros, no dates and no last lines beside the refusal, exactly when they are none
+--     config-refused       they are refused exactly when they are none
 --     one-config           a configuration shows one thing
 --     sized-config         a configuration's layout is allowed
 --     absent-exactly       a configuration shows that it has no last lines exactly where its edition is 1999
 -- Assumes nothing.
 use mathlib.Core.Path.{◌≡◌, refl, sym, ap, subst, ◌∙◌}
 use mathlib.Core.Logic.{◌↔◌, ◌⊎◌, inl, inr}
-use mathlib.Core.Bool.{true}
 use mathlib.Core.List.{List, [], ◌∷◌, ◌++◌, append_assoc, append-nil}
 use Prim.Native.Nat.{ℕ, ◌-◌, ◌≤◌, max}
 use native.Mathlib.Omega.{arith}
 use borrow.Author.Tests.{leb-true, le-leb, eqb-true}
 use lib.Dec.{eqb, leb}
 use lib.ListN.{length, replicate, length-append}
-use Rattle.ground.specs.Said.{Said, says, refuses}
+use Rattle.ground.specs.Said.{Said, says, refuses, answer_of}
 use Rattle.ground.specs.Quoted.{quoted}
 use Rattle.ground.proofs.Cases.{clash}
 use Rattle.ground.proofs.Walk as walk
-use Rattle.clock.specs.declared.Stamp.{Stamp}
-use Rattle.clock.specs.declared.Pretrigger.{Pretrigger}
+use Rattle.std.proofs.Common.{Err, None, Ok, Option, Result, Some}
+use Rattle.clock.specs.declared.Moment.{Moment}
+use Rattle.config_rules.specs.declared.LastLines.{LastLines}
+use Rattle.clock.specs.declared.Span.{Span}
 use Rattle.clock.specs.Spans.{pretrigger_of}
 use Rattle.channel_lines.specs.Channels.{channels_line, analog_line, status_line}
 use Rattle.config_lines.specs.Lines.{station_line, frequency_line, rates_line, date_line, kind_line, multiplier_line, codes_line, quality_line}
@@ -34,16 +35,11 @@ use Rattle.model.specs.declared.Kind.{Kind}
 use Rattle.model.specs.declared.Edition.{Edition}
 use Rattle.model.specs.declared.Edition.TheVariants.{Y2013, Y1999}
 use Rattle.model.specs.declared.Refusal.{Refusal}
-use Rattle.model.specs.declared.Answer.TheVariants.{Yes, No}
 use Rattle.model.specs.Refusals.{refused}
-use Rattle.model.specs.Layouts.{is_sized}
 use Rattle.model.proofs.LayoutLaws.{sized, sized-has}
-use Rattle.config_rules.specs.declared.Last.{Last}
-use Rattle.config_rules.specs.declared.Last.TheVariants.{Lines, Absent}
 use Rattle.config_rules.specs.declared.Config.{Config}
-use Rattle.config.specs.declared.ConfigAnswer.{ConfigAnswer}
 use Rattle.config.specs.Reading.{Place, said_of}
-use Rattle.config.specs.Config.{config_answer, last_of, last_lines, configuration, no_config, read_config}
+use Rattle.config.specs.Config.{last_of, last_lines, configuration, read_config}
 use Rattle.config.proofs.SizedLaws.{accepted-sized}
 use Rattle.paper.specs.Lines.{Line, ended, StationLine, ChannelsLine, AnalogLine, StatusLine, FrequencyLine, RatesLine, StampLine, KindLine, MultiplierLine, CodesLine, QualityLine}
 use Rattle.paper.specs.Configuration.{Between, EndLines, Configuration}
@@ -69,7 +65,7 @@ last-is l r h = (
   λ (others, e). ap (last_of 0) e ∙ last-from 0 others r,
 )
 
-pub pre_is : (f t : Stamp) (k l : List ℕ) (p : Pretrigger) → StampLine f k → StampLine t l → pretrigger_of f t ≡ p ↔ Between f t p
+pub pre_is : (f t : Option Moment) (k l : List ℕ) (p : Option Span) → StampLine f k → StampLine t l → pretrigger_of f t ≡ p ↔ Between f t p
 pre_is f t k l p h g = between-exactly f t (stamp-calendar f k h) (stamp-calendar t l g) p
 
 pub multiplier-some : (l : List ℕ) → MultiplierLine l → 1 ≤ length l
@@ -85,7 +81,7 @@ pub quality-some : (q p : ℕ) (l : List ℕ) → QualityLine q p l → 1 ≤ le
 quality-some q p l w = let e = ap length w.fields.joined in omega (arith, simp length-append at e)
 
 -- what is shown
-shown-is : (c : Config) (lasts : List ℕ) (rows : ℕ) (p : Pretrigger) → c.lasts ≡ lasts → c.layout.rows ≡ rows → c.pretrigger ≡ p
+shown-is : (c : Config) (lasts : List ℕ) (rows : ℕ) (p : Option Span) → c.lasts ≡ lasts → c.layout.rows ≡ rows → c.pretrigger ≡ p
     → record {
       layout = record { analogs = c.layout.analogs; statuses = c.layout.statuses; rows = rows; kind = c.layout.kind; edition = c.layout.edition };
       rates = c.rates;
@@ -107,7 +103,7 @@ end-from e (inl q) = inr (q, refl)
 end-from e (inr q) = inl q
 
 -- what the lines show together
-abbrev shown_by : Edition → ℕ × ℕ → ℕ → List ℕ → Stamp → Stamp → Kind → Last → Config
+abbrev shown_by : Edition → ℕ × ℕ → ℕ → List ℕ → Option Moment → Option Moment → Kind → Option LastLines → Config
 shown_by edition counts rates lasts first trigger kind last =
     record {
       layout = record { analogs = counts.0; statuses = counts.1; rows = last_of 0 lasts; kind = kind; edition = edition };
@@ -126,7 +122,7 @@ end-joined l k m x = ap (λ (z : List ℕ). l ++ 13 ∷ 10 ∷ z) (append_assoc 
 last-lines-read : (e : Edition) → ReadsLines (last_lines e) (λ v s u. (l : List ℕ) × (t : List ℕ) × (end : List ℕ) × (s ≡ l ++ (t ++ (end ++ u))) × Line MultiplierLine l × EndLines e v t × LastEnd end u)
 last-lines-read Y1999 =
     reads_as
-    (bind-reads (last-reads multiplier_line (λ z. MultiplierLine) (λ z. multiplier-line-exactly) (λ z. multiplier-some)) (λ z. done-reads Absent))
+    (bind-reads (last-reads multiplier_line (λ z. MultiplierLine) (λ z. multiplier-line-exactly) (λ z. multiplier-some)) (λ z. done-reads None))
     (λ v s u. (
       λ (z, w, (l, end, q, g, ends), (a, b)). (l, [], end, q ∙ ap (λ (x : List ℕ). l ++ (end ++ x)) b, g, (sym a, refl), subst (LastEnd end) b ends),
       λ (l, t, end, q, g, (a, b), ends). (tt, u, (l, end, q ∙ ap (λ (x : List ℕ). l ++ (x ++ (end ++ u))) b, g, ends), (sym a, refl)),
@@ -136,7 +132,7 @@ last-lines-read Y2013 =
     (bind-reads (line_reads multiplier_line (λ z. MultiplierLine) (λ z. multiplier-line-exactly)) (λ z.
     bind-reads (line_reads codes_line (λ v. CodesLine v.0 v.2 v.1) (λ v. codes-line-exactly v.0 v.2 v.1)) (λ c.
     bind-reads (last-reads quality_line (λ v. QualityLine v.0 v.1) (λ v. quality-line-exactly v.0 v.1) (λ v. quality-some v.0 v.1)) (λ p.
-    done-reads (Lines (record { code = c.0; x = c.1; local = c.2; quality = p.0; leap = p.1 }))))))
+    done-reads (Some (record { code = c.0; x = c.1; local = c.2; quality = p.0; leap = p.1 }))))))
     (λ v s u. (
       λ (z, s9, (l9, i9, g9), (c, s10, (l10, i10, g10), (p, s11, (l11, end, i11, g11, ends), (a, b)))). (
         l9,
@@ -306,42 +302,39 @@ config-reads s c =
     )
 
 -- what is accepted was said
-accepted-said : (x : Said Refusal (Config × Place)) (c : Config) → config_answer (said_of x) ≡ record { answer = Yes; config = c } → (p : Place) × (x ≡ says (c, p))
-accepted-said (says (d, p)) c e = (p, ap (λ (a : ConfigAnswer). says (a.config, p)) e)
-accepted-said (refuses r) c e = let q : No r ≡ Yes = ap (λ (a : ConfigAnswer). a.answer) e in clash (cc)
+accepted-said : (x : Said Refusal (Config × Place)) (c : Config) → answer_of (said_of x) ≡ Ok c → (p : Place) × (x ≡ says (c, p))
+accepted-said (says (d, p)) c e = let q : d ≡ c = cc in (p, rw q)
+accepted-said (refuses r) c e = clash (cc)
 
-pub config-exactly : (s : List ℕ) (c : Config) → (read_config s ≡ record { answer = Yes; config = c }) ↔ Configuration s c
+pub config-exactly : (s : List ℕ) (c : Config) → read_config s ≡ Ok c ↔ Configuration s c
 unfolding read_config
 config-exactly s c = (
   λ e. (config-reads s c).0 (accepted-said (configuration (1, s)) c e),
-  λ w. ap (λ (x : Said Refusal (Config × Place)). config_answer (said_of x)) ((config-reads s c).1 w).1,
+  λ w. ap (λ (x : Said Refusal (Config × Place)). answer_of (said_of x)) ((config-reads s c).1 w).1,
 )
 
--- an answer is yes, or no and an empty configuration beside it
-answer-cases : (x : Said Refusal Config) → ((r : Refusal) × (config_answer x ≡ record { answer = No r; config = no_config })) ⊎ ((c : Config) × (config_answer x ≡ record { answer = Yes; config = c }))
-answer-cases (says c) = inr (c, refl)
-answer-cases (refuses r) = inl (r, refl)
+-- an answer is a configuration or a refusal
+answer-cases : (x : Result Config Refusal) → ((r : Refusal) × (x ≡ Err r)) ⊎ ((c : Config) × (x ≡ Ok c))
+answer-cases (Ok c) = inr (c, refl)
+answer-cases (Err r) = inl (r, refl)
 
-pub config-refused : (s : List ℕ) → ((c : Config) → Configuration s c → ⊥) ↔ ((r : Refusal) × (read_config s ≡ record { answer = No r; config = no_config }))
-unfolding read_config
+pub config-refused : (s : List ℕ) → ((c : Config) → Configuration s c → ⊥) ↔ ((r : Refusal) × (read_config s ≡ Err r))
 config-refused s =
-    let w = other-told (answer-cases (said_of (configuration (1, s)))) (λ (c, y) (r, n). let q : Yes ≡ No r = ap (λ (a : ConfigAnswer). a.answer) (sym y ∙ n) in clash (cc)) in
+    let w = other-told (answer-cases (read_config s)) (λ (c, y) (r, n). clash (cc)) in
     (λ h. w.1 (λ (c, y). h c ((config-exactly s c).0 y)), λ n c h. w.0 n (c, (config-exactly s c).1 h))
 
 pub one-config : (s : List ℕ) (c d : Config) → Configuration s c → Configuration s d → c ≡ d
-one-config s c d h g = ap (λ (a : ConfigAnswer). a.config) (sym ((config-exactly s c).1 h) ∙ (config-exactly s d).1 g)
+one-config s c d h g = let p = (config-exactly s c).1 h in let q = (config-exactly s d).1 g in cc
 
 pub sized-config : (s : List ℕ) (c : Config) → Configuration s c → Allowed c.layout
 sized-config s c h =
-    let e = (config-exactly s c).1 h in
-    let q : (read_config s).config ≡ c = ap (λ (a : ConfigAnswer). a.config) e in
-    let size : is_sized c.layout ≡ true = ap (λ (d : Config). is_sized d.layout) (sym q) ∙ accepted-sized s (ap (λ (a : ConfigAnswer). a.answer) e) in
+    let size = accepted-sized s c ((config-exactly s c).1 h) in
     (sized c.layout size, sized-has c.layout size)
 
 -- the last two lines by the edition
-end-absent : (e : Edition) (v : Last) (t : List ℕ) → EndLines e v t → v ≡ Absent ↔ (e ≡ Y1999)
+end-absent : (e : Edition) (v : Option LastLines) (t : List ℕ) → EndLines e v t → v ≡ None ↔ (e ≡ Y1999)
 end-absent Y1999 v t (a, b) = (λ q. refl, λ q. a)
 end-absent Y2013 v t w = let a = w.3 in (λ q. clash (cc), λ q. clash (cc))
 
-pub absent-exactly : (s : List ℕ) (c : Config) → Configuration s c → c.last ≡ Absent ↔ (c.layout.edition ≡ Y1999)
+pub absent-exactly : (s : List ℕ) (c : Config) → Configuration s c → c.last ≡ None ↔ (c.layout.edition ≡ Y1999)
 absent-exactly s c w = end-absent c.layout.edition c.last w.t10 w.last

@@ -15,12 +15,14 @@ use native.Mathlib.Nat.{add-zero, zero-add, suc-add}
 use native.Mathlib.Omega.{arith}
 use lib.Dec.{eqb, leb}
 use lib.ListN.{length, take, drop}
-use Rattle.ground.specs.Said.{Said, says, refuses}
+use Rattle.ground.specs.Said.{Said, says, refuses, answer_of}
 use Rattle.ground.specs.Said as said
 use Rattle.ground.proofs.Cases.{clash}
 use Rattle.ground.proofs.SaidLaws.{bind-told}
-use Rattle.text.specs.declared.Scanned.{Scanned}
-use Rattle.text.specs.declared.Scanned.TheVariants as scan
+use Rattle.std.proofs.Common.{Err, Ok, Result}
+use Rattle.text.specs.declared.Line as text
+use Rattle.text.specs.declared.LineError.{LineError}
+use Rattle.text.specs.declared.LineError.TheVariants.{Bad, Ends}
 use Rattle.text.specs.Lines.{scan_line, scan_last_line}
 use Rattle.line_fields.specs.declared.Fault.{Fault}
 use Rattle.channel_lines.specs.Channels.{channels_line, analog_line, status_line}
@@ -28,13 +30,11 @@ use Rattle.config_lines.specs.Lines.{station_line, frequency_line, rates_line, r
 use Rattle.model.specs.declared.Edition.{Edition}
 use Rattle.model.specs.declared.Edition.TheVariants.{Y2013, Y1999}
 use Rattle.model.specs.declared.Refusal.{Refusal}
-use Rattle.model.specs.declared.Answer.TheVariants.{Yes, No}
 use Rattle.model.specs.Refusals.{refused}
 use Rattle.config_rules.specs.declared.Config.{Config}
-use Rattle.config.specs.declared.ConfigAnswer.{ConfigAnswer}
 use Rattle.config.specs.Reading.{Place, Reader, said_of, in_line, scanned, done, asking, line, last_line, times}
 use Rattle.config.specs.Reading as paper
-use Rattle.config.specs.Config.{config_answer, last_rows, last_lines, configuration, no_config, read_config}
+use Rattle.config.specs.Config.{last_rows, last_lines, configuration, read_config}
 use Rattle.paper.specs.Lines.{Line, ended, StationLine, ChannelsLine, AnalogLine, StatusLine, FrequencyLine, RatesLine, rate_sign, RateLine, StampLine, KindLine, MultiplierLine, CodesLine, QualityLine}
 use Rattle.paper.specs.Order.{Due, station, channels, frequency, rates, rate, first, trigger, kind, multiplier, codes, quality, status_due, analog_due, rate_due, Right, RightLines, MayEnd, NoneRight, FailsAt}
 use Rattle.exact_config.proofs.LineLaws.{station-line-exactly, channels-line-exactly, analog-line-exactly, status-line-exactly, frequency-line-exactly, rates-line-exactly}
@@ -126,16 +126,16 @@ in-line-at : {A : Type 0} (n : ℕ) (p : Place) (e : Refusal) (x : Said Fault A)
 in-line-at n p e (says a) q = clash (cc)
 in-line-at n p e (refuses f) q = let w : refused f.number n f.field ≡ e = cc in ap (λ (r : Refusal). r.at) (sym w)
 
-scanned-at : {A : Type 0} (rule : List ℕ → Said Fault A) (n : ℕ) (s : List ℕ) (e : Refusal) (f : Scanned) → scanned rule (n, s) f ≡ refuses e → e.at ≡ n
-scanned-at rule n s e (scan.Line m t) q = in-line-at n (n + 1, drop t s) e (rule (take m s)) q
-scanned-at rule n s e scan.Ends q = let w : refused 2 n 0 ≡ e = cc in ap (λ (r : Refusal). r.at) (sym w)
-scanned-at rule n s e scan.Bad q = let w : refused 3 n 0 ≡ e = cc in ap (λ (r : Refusal). r.at) (sym w)
+scanned-at : {A : Type 0} (rule : List ℕ → Said Fault A) (n : ℕ) (s : List ℕ) (e : Refusal) (f : Result text.Line LineError) → scanned rule (n, s) f ≡ refuses e → e.at ≡ n
+scanned-at rule n s e (Ok one) q = in-line-at n (n + 1, drop one.taken s) e (rule (take one.len s)) q
+scanned-at rule n s e (Err Ends) q = let w : refused 2 n 0 ≡ e = cc in ap (λ (r : Refusal). r.at) (sym w)
+scanned-at rule n s e (Err Bad) q = let w : refused 3 n 0 ≡ e = cc in ap (λ (r : Refusal). r.at) (sym w)
 
 -- the next line has the next number
-scanned-place : {A : Type 0} (rule : List ℕ → Said Fault A) (n : ℕ) (s : List ℕ) (a : A) (k : ℕ) (u : List ℕ) (f : Scanned) → scanned rule (n, s) f ≡ says (a, (k, u)) → k ≡ n + 1
-scanned-place rule n s a k u (scan.Line m t) q = ap (λ (z : Place). z.0) (sym (in-line-told n (n + 1, drop t s) (k, u) a (rule (take m s)) q).1)
-scanned-place rule n s a k u scan.Ends q = clash (cc)
-scanned-place rule n s a k u scan.Bad q = clash (cc)
+scanned-place : {A : Type 0} (rule : List ℕ → Said Fault A) (n : ℕ) (s : List ℕ) (a : A) (k : ℕ) (u : List ℕ) (f : Result text.Line LineError) → scanned rule (n, s) f ≡ says (a, (k, u)) → k ≡ n + 1
+scanned-place rule n s a k u (Ok one) q = ap (λ (z : Place). z.0) (sym (in-line-told n (n + 1, drop one.taken s) (k, u) a (rule (take one.len s)) q).1)
+scanned-place rule n s a k u (Err Ends) q = clash (cc)
+scanned-place rule n s a k u (Err Bad) q = clash (cc)
 
 -- a line that is right where x is due exactly where it is P a, a line
 module _ {A : Type 0} (rule : List ℕ → Said Fault A) (P : A → List ℕ → Type 0) (exactly : (a : A) (l : List ℕ) → rule l ≡ says a ↔ P a l)
@@ -262,11 +262,11 @@ config-stops =
     bind_stops (line-walks (kind_line e) (KindLine e) (kind-line-exactly e) (kind e) (λ l z r. (r.0, r.1)) (λ k. multiplier e) (λ k l g. (k, g, refl)) (⊎_elim (λ q. clash (cc)) (λ q. clash (cc)))) (λ k.
     only-stops (last-lines-stop e) (λ last. nothing-more _))))))))))))
 
-refused-said : (x : Said Refusal (Config × Place)) (r : Refusal) → config_answer (said_of x) ≡ record { answer = No r; config = no_config } → x ≡ refuses r
-refused-said (says (c, p)) r e = let q : Yes ≡ No r = ap (λ (a : ConfigAnswer). a.answer) e in clash (cc)
-refused-said (refuses t) r e = let q : No t ≡ No r = ap (λ (a : ConfigAnswer). a.answer) e in cc
+refused-said : (x : Said Refusal (Config × Place)) (r : Refusal) → answer_of (said_of x) ≡ Err r → x ≡ refuses r
+refused-said (says (c, p)) r e = clash (cc)
+refused-said (refuses t) r e = cc
 
-pub first-fault : (s : List ℕ) (n k f : ℕ) → read_config s ≡ record { answer = No (refused n k f); config = no_config } → 2 ≤ n → n < 9 → FailsAt k s
+pub first-fault : (s : List ℕ) (n k f : ℕ) → read_config s ≡ Err (refused n k f) → 2 ≤ n → n < 9 → FailsAt k s
 unfolding read_config
 first-fault s n k f e least most =
     let (j, q, t, u, w, y, l, none) = config-stops.fails 1 s (refused n k f) (refused-said (configuration (1, s)) (refused n k f) e) (least, most) in

@@ -26,30 +26,25 @@ use Rattle.ground.proofs.Cases.{on_test, clash}
 use Rattle.ground.proofs.Every.{and_split}
 use Rattle.ground.proofs.SaidLaws.{must-holds, then-told, bind-told}
 use Rattle.text.specs.Fields.{field_count, field_at}
-use Rattle.numerals.specs.declared.Count.{Count}
-use Rattle.numerals.specs.declared.Count.TheVariants as count
-use Rattle.fields.specs.declared.Field.{Field}
-use Rattle.fields.specs.declared.Field.TheVariants as field
-use Rattle.fields.specs.Fields.{read_count_in, read_lettered, read_year, read_quality, read_leap, read_kind}
-use Rattle.reals.specs.declared.Exact.{Exact}
-use Rattle.reals.specs.declared.Real.TheVariants as real
-use Rattle.reals.specs.declared.Limit.{Limit}
-use Rattle.reals.specs.declared.Limit.TheVariants as limit
-use Rattle.reals.specs.Exact.{read_limit, max_below}
-use Rattle.clock.specs.declared.Stamp.{Stamp}
-use Rattle.clock.specs.declared.Stamp.TheVariants as stamp
+use Rattle.std.proofs.Common.{Err, None, Ok, Option, Result, Some}
+use Rattle.clock.specs.declared.Moment.{Moment}
+use Rattle.numerals.specs.declared.FieldError.{FieldError}
 use Rattle.codes.specs.declared.Code.{Code}
-use Rattle.codes.specs.declared.Code.TheVariants as code
+use Rattle.codes.specs.declared.Code.TheVariants.{Minutes, X}
+use Rattle.numerals.specs.declared.FieldError.TheVariants.{Form, Range}
+use Rattle.reals.specs.declared.Sign.TheVariants.{Above}
+use Rattle.fields.specs.Fields.{read_count_in, read_lettered, read_year, read_quality, read_leap, read_kind}
+use Rattle.reals.specs.Exact.{read_limit, max_below}
 use Rattle.clock.specs.Dates.{read_date}
 use Rattle.clock.specs.Times.{read_time}
 use Rattle.clock.specs.Spans.{Calendar}
 use Rattle.codes.specs.Codes.{code_in, read_code, read_local_code}
 use Rattle.line_fields.specs.declared.Fault.{Fault}
 use Rattle.line_fields.specs.Faults.{text_fault, index_fault, real_fault, frequency_fault, above_fault, rate_fault, side_fault, state_fault}
-use Rattle.line_fields.specs.Checks.{fault, has_fields, faultless, number_at, value}
-use Rattle.channel_lines.specs.Channels.{limit_at, channels_line, names, scale, limits, analog_line, status_line}
-use Rattle.config_lines.specs.Lines.{edition_at, year_at, stamp_said, of_edition, kind_at, code_at, local_at, station_line, frequency_line, rates_line, rate_line, date_line, kind_line, multiplier_line, codes_line, quality_line}
-use Rattle.line_fields.proofs.ValueLaws.{number-told}
+use Rattle.line_fields.specs.Checks.{fault, has_fields, faultless, value_at}
+use Rattle.channel_lines.specs.Channels.{channels_line, names, scale, limits, analog_line, status_line}
+use Rattle.config_lines.specs.Lines.{edition_at, year_at, stamp_said, of_edition, code_at, local_at, station_line, frequency_line, rates_line, rate_line, date_line, kind_line, multiplier_line, codes_line, quality_line}
+use Rattle.line_fields.proofs.ValueLaws.{value-told}
 use Rattle.config_lines.proofs.Laws.{moment-told, none_told, date-said, kind-told}
 use Rattle.model.specs.declared.Kind.{Kind}
 use Rattle.model.specs.declared.Edition.{Edition}
@@ -109,8 +104,8 @@ pub at-says : {A B : Type 0} (at : B → Said Fault A) (is : A → B) → ((b : 
     → (b : B) {P : A → Type 0} → ((a : A) → b ≡ is a ↔ P a) → Says (at b) P
 at-says at is told same b h = record { exactly = λ a. (λ e. (h a).0 (told b a e), λ p. ap at ((h a).1 p) ∙ same a) }
 
-value-says : (k : ℕ) (read : List ℕ → Field) (l : List ℕ) {P : ℕ → Type 0} → ((v : ℕ) → read (field_at k l) ≡ field.Is v ↔ P v) → Says (value k read l) P
-value-says k read l h = at-says (number_at k) field.Is (number-told k) (λ v. refl) (read (field_at k l)) h
+value-says : {A : Type 0} (k : ℕ) (b : Result A FieldError) {P : A → Type 0} → ((v : A) → b ≡ Ok v ↔ P v) → Says (value_at k b) P
+value-says k b h = at-says (value_at k) Ok (value-told k) (λ v. refl) b h
 
 -- the fields that a line is are found in it
 pub fields-here : (n : ℕ) (f : ℕ → List ℕ) (l : List ℕ) → is_between 1 n n ≡ true → Fields n f l → (field_count l ≡ n) × ((i : ℕ) → is_between 1 n i ≡ true → field_at i l ≡ f i)
@@ -128,11 +123,11 @@ edition-told k y e =
     (λ u. rw (t, u) (λ q. let w : Y1999 ≡ e = cc in rw (← w) (eqb-true y 1999 u)))
     (λ u. rw (t, u) (λ q. clash (cc))))
 
-year-told : (k : ℕ) (b : Count) (e : Edition) → year_at k b ≡ says e → b ≡ count.Is (year_of e)
-year-told k (count.Is y) e q = ap count.Is (edition-told k y e q)
-year-told k count.Form e q = clash (cc)
+year-told : (k : ℕ) (b : Option ℕ) (e : Edition) → year_at k b ≡ says e → b ≡ Some (year_of e)
+year-told k (Some y) e q = ap Some (edition-told k y e q)
+year-told k None e q = clash (cc)
 
-year-same : (k : ℕ) (e : Edition) → year_at k (count.Is (year_of e)) ≡ says e
+year-same : (k : ℕ) (e : Edition) → year_at k (Some (year_of e)) ≡ says e
 unfolding edition_of
 year-same k Y2013 = refl
 year-same k Y1999 = refl
@@ -144,7 +139,7 @@ station-line-exactly e l =
     then-says (count-says 3 l)
     (then-says (fine-says 1 (text_fault 0 64) l (text-fine 0 64 (field_at 1 l)))
     (then-says (fine-says 2 (text_fault 0 64) l (text-fine 0 64 (field_at 2 l)))
-    (at-says (year_at 3) (λ x. count.Is (year_of x)) (year-told 3) (year-same 3) (read_year (field_at 3 l)) (λ x. year-is x (field_at 3 l)))))
+    (at-says (year_at 3) (λ x. Some (year_of x)) (year-told 3) (year-same 3) (read_year (field_at 3 l)) (λ x. year-is x (field_at 3 l)))))
     in (
       λ q. let (c, (s, (d, y))) = (w.exactly e).0 q in record { f = λ i. field_at i l; fields = fields-of 3 l (omega arith) c; station = s; device = d; year = y },
       λ s.
@@ -157,9 +152,9 @@ unfolding channels_line
 channels-line-exactly a d l =
     let w =
     then-says (count-says 3 l)
-    (bind-says (value-says 1 (read_count_in 6 1 352) l (count-in-exactly 6 1 352 (field_at 1 l))) (λ t.
-    bind-says (value-says 2 (read_lettered 65 96) l (lettered-exactly "A" 65 refl 96 (field_at 2 l))) (λ x.
-    bind-says (value-says 3 (read_lettered 68 256) l (lettered-exactly "D" 68 refl 256 (field_at 3 l))) (λ y.
+    (bind-says (value-says 1 (read_count_in 6 1 352 (field_at 1 l)) (count-in-exactly 6 1 352 (field_at 1 l))) (λ t.
+    bind-says (value-says 2 (read_lettered 65 96 (field_at 2 l)) (lettered-exactly "A" 65 refl 96 (field_at 2 l))) (λ x.
+    bind-says (value-says 3 (read_lettered 68 256 (field_at 3 l)) (lettered-exactly "D" 68 refl 256 (field_at 3 l))) (λ y.
     then-says (must-says (eqb t (x + y)) (fault 7 3) (eqb-true t (x + y), eq-eqb t (x + y))) (says-says {A = ℕ × ℕ} (x, y))))))
     in (
       λ e.
@@ -200,13 +195,8 @@ scale-says l =
     (then-says (fine-says 7 real_fault l (real-fine (field_at 7 l)))
     (fine-says 8 real_fault l (real-fine (field_at 8 l)))))
 
-limit-told : (k : ℕ) (b : Limit) (x : Exact) → limit_at k b ≡ says x → b ≡ limit.Is x
-limit-told k (limit.Is y) x e = cc
-limit-told k limit.Form x e = clash (cc)
-limit-told k limit.Range x e = clash (cc)
-
-limit-says : (k : ℕ) (f : List ℕ) → Says (limit_at k (read_limit f)) (λ x. read_limit f ≡ limit.Is x)
-limit-says k f = at-says (limit_at k) limit.Is (limit-told k) (λ x. refl) (read_limit f) (λ x. (λ e. e, λ e. e))
+limit-says : (k : ℕ) (f : List ℕ) → Says (value_at k (read_limit f)) (λ x. read_limit f ≡ Ok x)
+limit-says k f = value-says k (read_limit f) (λ x. (λ e. e, λ e. e))
 
 not-true : (t : Bool) → not t ≡ true ↔ (t ≡ false)
 not-true true = (λ e. sym e, λ e. sym e)
@@ -284,7 +274,7 @@ frequency-line-exactly l =
 pub rates-line-exactly : (n : ℕ) (l : List ℕ) → rates_line l ≡ says n ↔ RatesLine n l
 unfolding rates_line
 rates-line-exactly n l =
-    let w = one_field (CountIn 3 0 8) l (value-says 1 (read_count_in 3 0 8) l (count-in-exactly 3 0 8 (field_at 1 l))) n in
+    let w = one_field (CountIn 3 0 8) l (value-says 1 (read_count_in 3 0 8 (field_at 1 l)) (count-in-exactly 3 0 8 (field_at 1 l))) n in
     (λ e. let (f, s, p) = w.0 e in record { f = f; fields = s; rates = p }, λ s. w.1 (s.f, s.fields, s.rates))
 
 pub rate-line-exactly : (n before last : ℕ) (l : List ℕ) → rate_line (eqb n 0) before l ≡ says last ↔ RateLine (rate_sign n) before last l
@@ -293,7 +283,7 @@ rate-line-exactly n before last l =
     let w =
     then-says (count-says 2 l)
     (then-says (fine-says 1 (rate_fault (eqb n 0)) l (rate-fine n (field_at 1 l)))
-    (bind-says (value-says 2 (read_count_in 10 1 1000000) l (count-in-exactly 10 1 1000000 (field_at 2 l))) (λ v.
+    (bind-says (value-says 2 (read_count_in 10 1 1000000 (field_at 2 l)) (count-in-exactly 10 1 1000000 (field_at 2 l))) (λ v.
     then-says (must-says (ltb before v) (fault 7 2) (ltb-true before v, lt-ltb before v)) (says-says v))))
     in (
       λ e.
@@ -305,16 +295,16 @@ rate-line-exactly n before last l =
     )
 
 -- what the two fields of a date line are
-abbrev StampFields : Stamp → List ℕ → List ℕ → Type 0
-StampFields (stamp.At m) f g = paper.DateText m.date f × paper.TimeText m.time g
-StampFields stamp.None f g = (f ≡ quoted "00/00/0000") × ZeroTimeText g
+abbrev StampFields : Option Moment → List ℕ → List ℕ → Type 0
+StampFields (Some m) f g = paper.DateText m.date f × paper.TimeText m.time g
+StampFields None f g = (f ≡ quoted "00/00/0000") × ZeroTimeText g
 
-stamp-says : (s : Stamp) (f g : List ℕ) → stamp_said (read_date f) (read_time g) ≡ says s ↔ StampFields s f g
-stamp-says (stamp.At m) f g = (
+stamp-says : (s : Option Moment) (f g : List ℕ) → stamp_said (read_date f) (read_time g) ≡ says s ↔ StampFields s f g
+stamp-says (Some m) f g = (
   λ e. let (d, t) = moment-told (read_date f) (read_time g) m e in ((date-exactly m.date f).0 d, (time-exactly m.time g).0 t),
   λ (d, t). rw ((date-exactly m.date f).1 d, (time-exactly m.time g).1 t),
 )
-stamp-says stamp.None f g = (
+stamp-says None f g = (
   λ e. let (d, y, t, z) = none_told (read_date f) (read_time g) e in ((no-date-exactly f).0 d, (zero-time g).0 (y, t, z)),
   λ (d, t). let (y, p, z) = (zero-time g).1 t in rw ((no-date-exactly f).1 d, p, z),
 )
@@ -342,14 +332,14 @@ zero-line l = (
       (c, (e 1 refl, (w.places, w.least, w.most, e 2 refl))),
 )
 
-stamp-line : (s : Stamp) (l : List ℕ) → ((field_count l ≡ 2) × StampFields s (field_at 1 l) (field_at 2 l)) ↔ StampLine s l
-stamp-line (stamp.At m) l = (
+stamp-line : (s : Option Moment) (l : List ℕ) → ((field_count l ≡ 2) × StampFields s (field_at 1 l) (field_at 2 l)) ↔ StampLine s l
+stamp-line (Some m) l = (
   λ (c, (d, t)). record { f = λ i. field_at i l; fields = fields-of 2 l (omega arith) c; date = d; time = t },
   λ w. let (c, e) = fields-here 2 w.f l refl w.fields in (c, (rw (e 1 refl) w.date, rw (e 2 refl) w.time)),
 )
-stamp-line stamp.None l = zero-line l
+stamp-line None l = zero-line l
 
-pub date-line-exactly : (s : Stamp) (l : List ℕ) → date_line l ≡ says s ↔ StampLine s l
+pub date-line-exactly : (s : Option Moment) (l : List ℕ) → date_line l ≡ says s ↔ StampLine s l
 unfolding date_line
 date-line-exactly s l =
     let w = then-says (count-says 2 l) (record { exactly = λ s. stamp-says s (field_at 1 l) (field_at 2 l) }) in
@@ -357,10 +347,10 @@ date-line-exactly s l =
     (λ e. t.0 ((w.exactly s).0 e), λ h. (w.exactly s).1 (t.1 h))
 
 -- so what it says is of the calendar, or no date
-pub stamp-calendar : (s : Stamp) (l : List ℕ) → StampLine s l → Calendar s
+pub stamp-calendar : (s : Option Moment) (l : List ℕ) → StampLine s l → Calendar s
 stamp-calendar s l h = date-said l s ((date-line-exactly s l).1 h)
 
-kind-says : (e : Edition) (n : ℕ) (f : List ℕ) → Says (kind_at n (of_edition e (read_kind f))) (λ k. paper.KindWord k f × (has_kind e k ≡ true))
+kind-says : (e : Edition) (n : ℕ) (f : List ℕ) → Says (value_at n (of_edition e (read_kind f))) (λ k. paper.KindWord k f × (has_kind e k ≡ true))
 kind-says e n f =
     record {
       exactly = λ k. (
@@ -380,27 +370,27 @@ kind-line-exactly e k l =
 pub multiplier-line-exactly : (l : List ℕ) → multiplier_line l ≡ says tt ↔ MultiplierLine l
 unfolding multiplier_line
 multiplier-line-exactly l =
-    let w = one_field (λ u. paper.RealField real.Above) l (fine-says 1 above_fault l (above-fine (field_at 1 l))) tt in
+    let w = one_field (λ u. paper.RealField Above) l (fine-says 1 above_fault l (above-fine (field_at 1 l))) tt in
     (λ e. let (f, s, p) = w.0 e in record { f = f; fields = s; multiplier = p }, λ s. w.1 (s.f, s.fields, s.multiplier))
 
-code-told : (k : ℕ) (b : Code) (z : ℤ) → code_at k b ≡ says z → b ≡ code.Minutes z
-code-told k (code.Minutes y) z e = cc
-code-told k code.X z e = clash (cc)
-code-told k code.Form z e = clash (cc)
-code-told k code.Range z e = clash (cc)
+code-told : (k : ℕ) (b : Result Code FieldError) (z : ℤ) → code_at k b ≡ says z → b ≡ Ok (Minutes z)
+code-told k (Ok (Minutes y)) z e = cc
+code-told k (Ok X) z e = clash (cc)
+code-told k (Err Form) z e = clash (cc)
+code-told k (Err Range) z e = clash (cc)
 
 -- minutes, or x and zero beside it
-local-told : (k : ℕ) (b : Code) (x : Bool) (z : ℤ) → local_at k b ≡ says (x, z) → ((x ≡ false) × (b ≡ code.Minutes z)) ⊎ ((x ≡ true) × (b ≡ code.X) × (z ≡ pos 0))
-local-told k (code.Minutes y) x z e =
+local-told : (k : ℕ) (b : Result Code FieldError) (x : Bool) (z : ℤ) → local_at k b ≡ says (x, z) → ((x ≡ false) × (b ≡ Ok (Minutes z))) ⊎ ((x ≡ true) × (b ≡ Ok X) × (z ≡ pos 0))
+local-told k (Ok (Minutes y)) x z e =
     let w : ◌≡◌ {A = Bool × ℤ} (false, y) (x, z) = cc in
-    inl (sym (ap (λ (v : Bool × ℤ). v.0) w), ap (λ (v : Bool × ℤ). code.Minutes v.1) w)
-local-told k code.X x z e =
+    inl (sym (ap (λ (v : Bool × ℤ). v.0) w), ap (λ (v : Bool × ℤ). (Ok (Minutes v.1))) w)
+local-told k (Ok X) x z e =
     let w : ◌≡◌ {A = Bool × ℤ} (true, pos 0) (x, z) = cc in
     inr (sym (ap (λ (v : Bool × ℤ). v.0) w), refl, sym (ap (λ (v : Bool × ℤ). v.1) w))
-local-told k code.Form x z e = clash (cc)
-local-told k code.Range x z e = clash (cc)
+local-told k (Err Form) x z e = clash (cc)
+local-told k (Err Range) x z e = clash (cc)
 
-local-to : (f : List ℕ) (x : Bool) (z : ℤ) → ((x ≡ false) × (code_in true f ≡ code.Minutes z)) ⊎ ((x ≡ true) × (code_in true f ≡ code.X) × (z ≡ pos 0)) → LocalField z x f
+local-to : (f : List ℕ) (x : Bool) (z : ℤ) → ((x ≡ false) × (code_in true f ≡ Ok (Minutes z))) ⊎ ((x ≡ true) × (code_in true f ≡ Ok X) × (z ≡ pos 0)) → LocalField z x f
 local-to f x z (inl (q, e)) = rw q ((code-exactly true f z).0 e)
 local-to f x z (inr (q, e, r)) = rw q ((x-exactly f).0 e, r)
 
@@ -414,7 +404,7 @@ local-says k f = record { exactly = λ v. (λ e. local-to f v.0 v.1 (local-told 
 
 code-says : (k : ℕ) (f : List ℕ) → Says (code_at k (read_code f)) (λ z. paper.CodeField z f)
 unfolding read_code
-code-says k f = at-says (code_at k) code.Minutes (code-told k) (λ z. refl) (code_in false f) (code-exactly false f)
+code-says k f = at-says (code_at k) (λ z. Ok (Minutes z)) (code-told k) (λ z. refl) (code_in false f) (code-exactly false f)
 
 pub codes-line-exactly : (z w : ℤ) (x : Bool) (l : List ℕ) → codes_line l ≡ says (z, x, w) ↔ CodesLine z w x l
 unfolding codes_line
@@ -438,8 +428,8 @@ unfolding quality_line
 quality-line-exactly q p l =
     let w =
     then-says (count-says 2 l)
-    (bind-says (value-says 1 read_quality l (quality-exactly (field_at 1 l))) (λ x.
-    bind-says (value-says 2 read_leap l (leap-exactly (field_at 2 l))) (λ y.
+    (bind-says (value-says 1 (read_quality (field_at 1 l)) (quality-exactly (field_at 1 l))) (λ x.
+    bind-says (value-says 2 (read_leap (field_at 2 l)) (leap-exactly (field_at 2 l))) (λ y.
     says-says {A = ℕ × ℕ} (x, y))))
     in (
       λ e.

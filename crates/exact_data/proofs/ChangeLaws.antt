@@ -30,7 +30,7 @@ use Rattle.model.specs.declared.Kind.{Kind}
 use Rattle.model.specs.declared.Kind.TheVariants.{Ascii, Binary, Binary32}
 use Rattle.model.specs.declared.Layout.{Layout}
 use Rattle.model.specs.declared.Row.{Row}
-use Rattle.model.specs.declared.Sample.TheVariants.{Is}
+use Rattle.std.proofs.Common.{Some}
 use Rattle.model.specs.Kinds.{lowest_of, highest_of}
 use Rattle.model.specs.Editions.{has_kind}
 use Rattle.model.specs.Layouts.{is_sized, Sized, in_kind}
@@ -64,7 +64,7 @@ module _ (l : Layout) (r : Row) where
   misfit-within h = ⊎_elim (λ k. k) (λ k. absurd (h (omega (arith, misfit-le l r.samples)))) (lt-or-ge (misfit_of l r) l.analogs)
 
   misfit-there : misfit_of l r < l.analogs
-      → (row_sample r (misfit_of l r) ≡ Is (place (misfit_of l r)))
+      → (row_sample r (misfit_of l r) ≡ Some (place (misfit_of l r)))
       × ((place (misfit_of l r) <ℤ lowest_of l.kind l.edition) ⊎ (highest_of l.kind l.edition <ℤ place (misfit_of l r)))
   unfolding misfit_of
   misfit-there h = misfit-outside l (place (misfit_of l r)) (misfit-first l r.samples h).1

@@ -7,7 +7,7 @@
 --     accepted-rows              an accepted file is the data file of the rows that it shows
 --     data-refused               a file is refused exactly when it is the data file of no rows
 --     row-shown                  row n is shown, and is q, exactly when the file is the data file of rows of which q is the n-th
---     row-refused                a row is refused, with zeros beside it, exactly when the file is, or when there is no such row
+--     row-refused                a row is refused exactly when the file is, or when there is no such row
 -- Assumes nothing.
 use mathlib.Core.Path.{◌≡◌, refl, sym, ap, subst, ◌∙◌}
 use mathlib.Core.Logic.{◌↔◌, ◌⊎◌, inl, inr, ⊎_elim}
@@ -16,7 +16,7 @@ use mathlib.Core.List.{List}
 use Prim.Native.Nat.{ℕ, ◌+◌, ◌-◌, ◌<◌, ◌≤◌}
 use native.Mathlib.Omega.{arith}
 use borrow.Author.Tests.{le-leb}
-use Rattle.ground.specs.Said.{Said, says, refuses, ◌>>◌, must}
+use Rattle.ground.specs.Said.{Said, says, refuses, ◌>>◌, must, answer_of}
 use Rattle.ground.specs.Tables.{every}
 use Rattle.ground.proofs.Cases.{lt-or-ge, clash}
 use Rattle.ground.proofs.SaidLaws.{must-told, then-told}
@@ -26,16 +26,13 @@ use Rattle.model.specs.declared.Kind.TheVariants.{Ascii, Binary, Binary32}
 use Rattle.model.specs.declared.Layout.{Layout}
 use Rattle.model.specs.declared.Row.{Row}
 use Rattle.model.specs.declared.Refusal.{Refusal}
-use Rattle.model.specs.declared.Answer.{Answer}
-use Rattle.model.specs.declared.Answer.TheVariants.{Yes, No}
+use Rattle.std.proofs.Common.{Err, Ok, Result}
 use Rattle.model.specs.Layouts.{is_sized, Sized}
 use Rattle.model.specs.Refusals.{refused}
-use Rattle.model.specs.Rows.{zero_row}
 use Rattle.model.proofs.LayoutLaws.{sized, sized-has, sized-is}
 use Rattle.binary_file.specs.Files.{check_binary, binary_row}
 use Rattle.ascii_file.specs.Files.{check_text, text_row}
-use Rattle.data.specs.declared.RowAnswer.{RowAnswer}
-use Rattle.data.specs.Files.{file_fine, row_at, has_row, check_file, row_answer, show_row}
+use Rattle.data.specs.Files.{file_fine, row_at, has_row, check_file, show_row}
 use Rattle.data.proofs.Laws.{row_told, accepted-fine}
 use Rattle.row_bytes.proofs.KindLaws.{text-kind, binary-kind, by-kind}
 use Rattle.paper.specs.Lines.{Line}
@@ -105,7 +102,7 @@ module _ (l : Layout) (s : List ℕ) (size : Sized l) (bytes : every is_byte s �
   one-file r q t u i h = sym (((fine-exactly r).1 t).1 i h) ∙ ((fine-exactly q).1 u).1 i h
 
 -- row n of a file that is fine
-shows : (l : Layout) (s : List ℕ) (n : ℕ) → is_sized l ≡ true → file_fine l s ≡ says tt → has_row l n ≡ true → show_row l s n ≡ row_answer (says (row_at l s (n - 1)))
+shows : (l : Layout) (s : List ℕ) (n : ℕ) → is_sized l ≡ true → file_fine l s ≡ says tt → has_row l n ≡ true → show_row l s n ≡ Ok (row_at l s (n - 1))
 unfolding show_row
 shows l s n a f h = rw (a, h, f)
 
@@ -115,55 +112,55 @@ has l n h k = rw (le-leb 1 n h, le-leb n l.rows k)
 
 module _ (l : Layout) (s : List ℕ) (bytes : every is_byte s ≡ true) where
   -- row i, counted from 0
-  shows-next : (i : ℕ) → is_sized l ≡ true → file_fine l s ≡ says tt → i < l.rows → show_row l s (i + 1) ≡ row_answer (says (row_at l s i))
+  shows-next : (i : ℕ) → is_sized l ≡ true → file_fine l s ≡ says tt → i < l.rows → show_row l s (i + 1) ≡ Ok (row_at l s i)
   shows-next i a f h =
       let e : i + 1 - 1 ≡ i = omega arith in
       rw e at (shows l s (i + 1) a f (has l (i + 1) (omega arith) (omega arith)))
 
-  data-to : (r : ℕ → Row) → check_file l s ≡ Yes → ((i : ℕ) → i < l.rows → show_row l s (i + 1) ≡ row_answer (says (r i))) → Allowed l × DataFile l r s
+  data-to : (r : ℕ → Row) → check_file l s ≡ Ok tt → ((i : ℕ) → i < l.rows → show_row l s (i + 1) ≡ Ok (r i)) → Allowed l × DataFile l r s
   data-to r e rows =
       let a = accepted-fine l s e in (
         (sized l a.0, sized-has l a.0),
         (fine-exactly l s (sized l a.0) bytes r).0
-            (a.1, λ i h. ap (λ (x : RowAnswer). x.row) (sym (shows-next i a.0 a.1 h) ∙ rows i h)),
+            (a.1, λ i h. let q : Ok (row_at l s i) ≡ Ok (r i) = sym (shows-next i a.0 a.1 h) ∙ rows i h in cc),
       )
 
-  data-from : (r : ℕ → Row) → Allowed l → DataFile l r s → (check_file l s ≡ Yes) × ((i : ℕ) → i < l.rows → show_row l s (i + 1) ≡ row_answer (says (r i)))
+  data-from : (r : ℕ → Row) → Allowed l → DataFile l r s → (check_file l s ≡ Ok tt) × ((i : ℕ) → i < l.rows → show_row l s (i + 1) ≡ Ok (r i))
   unfolding check_file
   data-from r z t =
       let f = (fine-exactly l s z.0 bytes r).1 t in
       let a = sized-is l z.0 z.1 in
-      (rw (a, f.0), λ i h. shows-next i a f.0 h ∙ ap (λ (q : Row). row_answer (says q)) (f.1 i h))
+      (rw (a, f.0), λ i h. shows-next i a f.0 h ∙ ap (λ (q : Row). Ok q) (f.1 i h))
 
   pub data-exactly : (r : ℕ → Row)
-      → ((check_file l s ≡ Yes) × ((i : ℕ) → i < l.rows → show_row l s (i + 1) ≡ row_answer (says (r i)))) ↔ (Allowed l × DataFile l r s)
+      → ((check_file l s ≡ Ok tt) × ((i : ℕ) → i < l.rows → show_row l s (i + 1) ≡ Ok (r i))) ↔ (Allowed l × DataFile l r s)
   data-exactly r = (λ x. data-to r x.0 x.1, λ x. data-from r x.0 x.1)
 
   -- the data file of no rows
   abbrev pub NoFile : Type 0
   NoFile = (r : ℕ → Row) → Allowed l → DataFile l r s → ⊥
 
-  pub accepted-rows : check_file l s ≡ Yes → Allowed l × DataFile l (row_at l s) s
+  pub accepted-rows : check_file l s ≡ Ok tt → Allowed l × DataFile l (row_at l s) s
   accepted-rows e =
       let a = accepted-fine l s e in
       let z = sized l a.0 in
       ((z, sized-has l a.0), (fine-exactly l s z bytes (row_at l s)).0 (a.1, λ i h. refl))
 
-  accepted-file : check_file l s ≡ Yes → NoFile → ⊥
+  accepted-file : check_file l s ≡ Ok tt → NoFile → ⊥
   accepted-file e f = let t = accepted-rows e in f (row_at l s) t.0 t.1
 
-  pub data-refused : NoFile ↔ ((x : Refusal) × (check_file l s ≡ No x))
-  data-refused = (λ f. decide f (check_file l s) refl, λ t r z u. let q : No t.0 ≡ Yes = sym t.1 ∙ (data-from r z u).0 in clash (cc))
+  pub data-refused : NoFile ↔ ((x : Refusal) × (check_file l s ≡ Err x))
+  data-refused = (λ f. decide f (check_file l s) refl, λ t r z u. let q : Err t.0 ≡ Ok tt = sym t.1 ∙ (data-from r z u).0 in clash (cc))
     where
-      decide : NoFile → (a : Answer) → check_file l s ≡ a → (x : Refusal) × (check_file l s ≡ No x)
-      decide f Yes e = absurd (accepted-file e f)
-      decide f (No x) e = (x, e)
+      decide : NoFile → (a : Result (Unit {0}) Refusal) → check_file l s ≡ a → (x : Refusal) × (check_file l s ≡ Err x)
+      decide f (Ok tt) e = absurd (accepted-file e f)
+      decide f (Err x) e = (x, e)
 
   -- what stands behind a row that is shown
   abbrev say_row : ℕ → Said Refusal Row
   say_row n = must (is_sized l) (refused 10 0 0) >> (must (has_row l n) (refused 15 0 0) >> (file_fine l s >> says (row_at l s (n - 1))))
 
-  said_row : (n : ℕ) (q : Row) → say_row n ≡ says q → (check_file l s ≡ Yes) × (has_row l n ≡ true)
+  said_row : (n : ℕ) (q : Row) → say_row n ≡ says q → (check_file l s ≡ Ok tt) × (has_row l n ≡ true)
   unfolding check_file
   said_row n q e =
       let a = must-told (is_sized l) (refused 10 0 0) _ q e in
@@ -171,25 +168,26 @@ module _ (l : Layout) (s : List ℕ) (bytes : every is_byte s ≡ true) where
       let c = then-told (file_fine l s) (says (row_at l s (n - 1))) q b.1 in
       (rw (a.0, c.0), b.0)
 
-  said-shown : (n : ℕ) (q : Row) (x : Said Refusal Row) → row_answer x ≡ row_answer (says q) → x ≡ says q
-  said-shown n q (says p) e = ap (λ (y : RowAnswer). says y.row) e
-  said-shown n q (refuses r) e = let y : No r ≡ Yes = ap (λ (y : RowAnswer). y.answer) e in clash (cc)
+  said-shown : (n : ℕ) (q : Row) (x : Said Refusal Row) → answer_of x ≡ Ok q → x ≡ says q
+  said-shown n q (says p) e = cc
+  said-shown n q (refuses r) e = clash (cc)
 
-  shown-to : (n : ℕ) (q : Row) → show_row l s n ≡ row_answer (says q) → (r : ℕ → Row) × Allowed l × DataFile l r s × (1 ≤ n) × (n ≤ l.rows) × (q ≡ r (n - 1))
+  shown-to : (n : ℕ) (q : Row) → show_row l s n ≡ Ok q → (r : ℕ → Row) × Allowed l × DataFile l r s × (1 ≤ n) × (n ≤ l.rows) × (q ≡ r (n - 1))
   unfolding show_row
   shown-to n q e =
       let b = said_row n q (said-shown n q (say_row n) e) in
       let a = accepted-fine l s b.0 in
       let t = accepted-rows b.0 in
       let k = row_told l n b.1 in
-      (row_at l s, t.0, t.1, k.0, k.1, ap (λ (y : RowAnswer). y.row) (sym e ∙ shows l s n a.0 a.1 b.1))
+      let w : Ok q ≡ Ok (row_at l s (n - 1)) = sym e ∙ shows l s n a.0 a.1 b.1 in
+      (row_at l s, t.0, t.1, k.0, k.1, cc)
 
-  shown-from : (n : ℕ) (q : Row) → (r : ℕ → Row) × Allowed l × DataFile l r s × (1 ≤ n) × (n ≤ l.rows) × (q ≡ r (n - 1)) → show_row l s n ≡ row_answer (says q)
+  shown-from : (n : ℕ) (q : Row) → (r : ℕ → Row) × Allowed l × DataFile l r s × (1 ≤ n) × (n ≤ l.rows) × (q ≡ r (n - 1)) → show_row l s n ≡ Ok q
   shown-from n q (r, z, t, h, k, w) =
       let f = (fine-exactly l s z.0 bytes r).1 t in
-      shows l s n (sized-is l z.0 z.1) f.0 (has l n h k) ∙ ap (λ (p : Row). row_answer (says p)) (f.1 (n - 1) (omega arith) ∙ sym w)
+      shows l s n (sized-is l z.0 z.1) f.0 (has l n h k) ∙ ap (λ (p : Row). Ok p) (f.1 (n - 1) (omega arith) ∙ sym w)
 
-  pub row-shown : (n : ℕ) (q : Row) → show_row l s n ≡ row_answer (says q) ↔ ((r : ℕ → Row) × Allowed l × DataFile l r s × (1 ≤ n) × (n ≤ l.rows) × (q ≡ r (n - 1)))
+  pub row-shown : (n : ℕ) (q : Row) → show_row l s n ≡ Ok q ↔ ((r : ℕ → Row) × Allowed l × DataFile l r s × (1 ≤ n) × (n ≤ l.rows) × (q ≡ r (n - 1)))
   row-shown n q = (shown-to n q, shown-from n q)
 
   -- there is no row n
@@ -199,15 +197,15 @@ module _ (l : Layout) (s : List ℕ) (bytes : every is_byte s ≡ true) where
   no_row : (n : ℕ) → has_row l n ≡ true → NoRow n → ⊥
   no_row n h k = let t = row_told l n h in ⊎_elim (λ q. omega arith) (λ q. omega arith) k
 
-  row-to : (n : ℕ) → NoFile ⊎ NoRow n → (x : Refusal) × (show_row l s n ≡ record { answer = No x; row = zero_row })
+  row-to : (n : ℕ) → NoFile ⊎ NoRow n → (x : Refusal) × (show_row l s n ≡ Err x)
   unfolding show_row
   row-to n w = decide (say_row n) refl
     where
-      decide : (y : Said Refusal Row) → say_row n ≡ y → (x : Refusal) × (show_row l s n ≡ record { answer = No x; row = zero_row })
+      decide : (y : Said Refusal Row) → say_row n ≡ y → (x : Refusal) × (show_row l s n ≡ Err x)
       decide (says q) e = let a = said_row n q e in absurd (⊎_elim (accepted-file a.0) (no_row n a.1) w)
-      decide (refuses x) e = (x, ap row_answer e)
+      decide (refuses x) e = (x, ap answer_of e)
 
-  row_from : (n : ℕ) → (x : Refusal) × (show_row l s n ≡ record { answer = No x; row = zero_row }) → NoFile ⊎ NoRow n
+  row_from : (n : ℕ) → (x : Refusal) × (show_row l s n ≡ Err x) → NoFile ⊎ NoRow n
   row_from n t =
       ⊎_elim
       (λ (h : n < 1). inr (inl h))
@@ -218,10 +216,10 @@ module _ (l : Layout) (s : List ℕ) (bytes : every is_byte s ≡ true) where
       inl (λ r z u.
       let f = (fine-exactly l s z.0 bytes r).1 u in
       let e = shows l s n (sized-is l z.0 z.1) f.0 (has l n h k) in
-      let q : No t.0 ≡ Yes = ap (λ (x : RowAnswer). x.answer) (sym t.1 ∙ e) in
+      let q : Err t.0 ≡ Ok (row_at l s (n - 1)) = sym t.1 ∙ e in
       clash (cc)))
       (lt-or-ge l.rows n))
       (lt-or-ge n 1)
 
-  pub row-refused : (n : ℕ) → (NoFile ⊎ NoRow n) ↔ ((x : Refusal) × (show_row l s n ≡ record { answer = No x; row = zero_row }))
+  pub row-refused : (n : ℕ) → (NoFile ⊎ NoRow n) ↔ ((x : Refusal) × (show_row l s n ≡ Err x))
   row-refused n = (row-to n, row_from n)

@@ -28,7 +28,7 @@ use Rattle.words.specs.Signed.{half, signed_of}
 use Rattle.words.proofs.WordLaws.{word_of-part-lt}
 use Rattle.words.proofs.SignedLaws.{signed_low, signed_high, half_twice}
 use Rattle.model.specs.declared.Layout.{Layout}
-use Rattle.model.specs.declared.Sample.TheVariants.{Is}
+use Rattle.std.proofs.Common.{Some}
 use Rattle.model.specs.Kinds.{lowest_of, highest_of}
 use Rattle.model.specs.Samples.{missing, is_missing, sample_of, holds, fits, sample_of_word}
 use Rattle.model.proofs.SampleLaws.{missing-is, is-missing, signed-size, fits-there, there-fits}
@@ -128,7 +128,7 @@ module _ (l : Layout) (z : ℤ) where
       (λ t. inl (lt_z_yes {a = z} {b = low} (rw t tt)))
       (λ t. on_test (lt_z high z) (λ u. inr (lt_z_yes {a = high} {b = z} (rw u tt))) (λ u. let q : true ≡ false = rw (t, u) at e in clash (cc)))
 
-  pub misfit-outside : fits l z ≡ false → (sample_of z ≡ Is z) × ((z <ℤ low) ⊎ (high <ℤ z))
+  pub misfit-outside : fits l z ≡ false → (sample_of z ≡ Some z) × ((z <ℤ low) ⊎ (high <ℤ z))
   unfolding fits sample_of
   misfit-outside e =
       on_test (is_missing z)

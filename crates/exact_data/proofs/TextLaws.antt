@@ -27,7 +27,7 @@ use Rattle.ground.proofs.Cases.{on_test, clash}
 use Rattle.ground.proofs.Every.{and_split}
 use Rattle.ground.proofs.SaidLaws.{must-holds, bind-told}
 use Rattle.ground.proofs.Tables.{tab-ext, cat-front, cat-ext}
-use Rattle.text.specs.declared.Scanned.TheVariants as scanned
+use Rattle.std.proofs.Common.{Ok, Some}
 use Rattle.text.specs.Lines.{line_bytes}
 use Rattle.text.specs.Fields.{field_count, after_fields, field_at}
 use Rattle.text.proofs.LineLaws.{line-found, line-ended, line-scanned}
@@ -41,7 +41,6 @@ use Rattle.model.specs.Refusals.{refused}
 use Rattle.model.specs.Samples.{is_missing, sample_of, marked_in, marked}
 use Rattle.model.specs.Rows.{latest_time, trimmed}
 use Rattle.model.proofs.SampleLaws.{missing-is, is-missing, holds-there}
-use Rattle.numerals.specs.declared.Whole.TheVariants as whole
 use Rattle.numerals.specs.Wholes.{read_whole}
 use Rattle.ascii_row.specs.Fields.{read_timestamp, is_missing_field, read_sample, time_in, sample_in, status_in}
 use Rattle.ascii_row.specs.Rows.{fields_of, check_line, field_sample, field_status, row_of}
@@ -72,7 +71,7 @@ time-of f v c h = rw ((count-exactly 13 v f).1 c, le-leb v latest_time h)
 
 -- the text of a missing sample, by kind and edition
 missing-to : (k : Kind) (e : Edition) (f : List ℕ) → k ≡ Ascii
-    → ((marked_in k e ≡ false) × (f ≡ [])) ⊎ ((marked_in k e ≡ true) × (read_whole f ≡ whole.Is (pos 99999))) → MissingText e f
+    → ((marked_in k e ≡ false) × (f ≡ [])) ⊎ ((marked_in k e ≡ true) × (read_whole f ≡ Some (pos 99999))) → MissingText e f
 missing-to Ascii Y2013 f t (inl (m, n)) = n
 missing-to Ascii Y2013 f t (inr (m, n)) = clash (cc)
 missing-to Ascii Y1999 f t (inl (m, n)) = clash (cc)
@@ -81,7 +80,7 @@ missing-to Binary e f t m = clash (cc)
 missing-to Binary32 e f t m = clash (cc)
 
 missing-from : (k : Kind) (e : Edition) (f : List ℕ) → k ≡ Ascii → MissingText e f
-    → ((marked_in k e ≡ false) × (f ≡ [])) ⊎ ((marked_in k e ≡ true) × (read_whole f ≡ whole.Is (pos 99999)))
+    → ((marked_in k e ≡ false) × (f ≡ [])) ⊎ ((marked_in k e ≡ true) × (read_whole f ≡ Some (pos 99999)))
 missing-from Ascii Y2013 f t m = inl (refl, m)
 missing-from Ascii Y1999 f t m = inr (refl, (whole-exactly (pos 99999) f).1 m)
 missing-from Binary e f t m = clash (cc)
@@ -105,7 +104,7 @@ module _ (l : Layout) (text : l.kind ≡ Ascii) (f : List ℕ) (z : ℤ) where
       (λ t. rw t (λ e. inl (is-missing z t, (missing-exactly l f text).1 e)))
       (λ t. rw t (λ e. inr ((whole-exactly z f).1 e.0, (range-exactly l z).1 e.1)))
 
-  pub sample-exactly : read_sample l f ≡ whole.Is z ↔ SampleField l (sample_of z) f
+  pub sample-exactly : read_sample l f ≡ Some z ↔ SampleField l (sample_of z) f
   sample-exactly = (λ e. sample-to (sample-told l f z e), λ t. told-sample l f z (sample-from t))
 
   -- what a field says is what the row has
@@ -213,7 +212,7 @@ first-or P m h k zero q = h
 first-or P m h k (suc i) q = k i (omega arith)
 
 -- the line with which s begins, where it is fine
-module _ (s : List ℕ) (len : ℕ) (e : scan_row s ≡ scanned.Line len (len + 2)) where
+module _ (s : List ℕ) (len : ℕ) (e : scan_row s ≡ Ok (record { len = len; taken = (len + 2) })) where
   first-is : first_line s ≡ take len s
   unfolding first_line
   first-is = rw e
@@ -265,7 +264,7 @@ module _ (l : Layout) (n m : ℕ) (s : List ℕ) (line : ℕ → List ℕ) (end 
   unfolding others
   front = r.parts ∙ lines-front line m end
 
-  front-scanned : scan_row s ≡ scanned.Line (length (line 0)) (length (line 0) + 2)
+  front-scanned : scan_row s ≡ Ok (record { len = (length (line 0)); taken = (length (line 0) + 2) })
   front-scanned = rw front (line-scanned 1880 (line 0) (others line m end) (r.bytes 0 (omega arith)) (r.short 0 (omega arith)))
 
   front-line : take (length (line 0)) s ≡ line 0

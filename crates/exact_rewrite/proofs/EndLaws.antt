@@ -16,7 +16,8 @@ use Rattle.ground.proofs.Cases.{clash}
 use Rattle.model.specs.declared.Kind.{Kind}
 use Rattle.model.specs.declared.Edition.{Edition}
 use Rattle.model.specs.declared.Edition.TheVariants.{Y2013, Y1999}
-use Rattle.config_rules.specs.declared.Last.{Last}
+use Rattle.std.proofs.Common.{Option}
+use Rattle.config_rules.specs.declared.LastLines.{LastLines}
 use Rattle.paper.specs.Lines.{Line, ended, MultiplierLine}
 use Rattle.paper.specs.Configuration.{EndLines}
 use Rattle.exact_config.proofs.ExactLaws.{multiplier-some, quality-some}
@@ -31,11 +32,11 @@ use Rattle.exact_rewrite.proofs.LinesLaws.{part_then, next, last}
 
 -- by a way to write a line anew
 module _ (anew : LineSort → List ℕ → List ℕ) where
-  abbrev pub end_text : (e : Edition) (v : Last) (t : List ℕ) → EndLines e v t → List ℕ
+  abbrev pub end_text : (e : Edition) (v : Option LastLines) (t : List ℕ) → EndLines e v t → List ℕ
   end_text Y1999 v t w = []
   end_text Y2013 v t (e, l10, l11, shown, codes, quality, is) = quoted "\r\n" ++ (ended (anew Numbers l10) ++ anew Kept l11)
 
-  pub end_is : (e : Edition) (v : Last) (l t end : List ℕ) (w : EndLines e v t) → Line MultiplierLine l → (end ≡ []) ⊎ (end ≡ quoted "\r\n")
+  pub end_is : (e : Edition) (v : Option LastLines) (l t end : List ℕ) (w : EndLines e v t) → Line MultiplierLine l → (end ≡ []) ⊎ (end ≡ quoted "\r\n")
       → lines_text anew (Numbers ∷ end_sorts e) (l ++ (t ++ end)) ≡ anew Numbers l ++ (end_text e v t w ++ quoted "\r\n")
   end_is Y1999 v l t end (shown, none) m ends =
       ap (λ (x : List ℕ). lines_text anew (Numbers ∷ []) (l ++ (x ++ end))) none ∙ last anew Numbers l end m (multiplier-some l m.is) ends
@@ -50,7 +51,7 @@ module _ (anew : LineSort → List ℕ → List ℕ) where
       (last anew Kept l11 end quality (quality-some e.quality e.leap l11 quality.is) ends))
       ∙ new
 
-pub end-written : (k : Kind) (e : Edition) (v : Last) (t : List ℕ) (w : EndLines e v t) → EndLines e v (end_text (line_text k) e v t w)
+pub end-written : (k : Kind) (e : Edition) (v : Option LastLines) (t : List ℕ) (w : EndLines e v t) → EndLines e v (end_text (line_text k) e v t w)
 end-written k Y1999 v t (shown, none) = (shown, refl)
 end-written k Y2013 v t (e, l10, l11, shown, codes, quality, is) = (
   e,
@@ -62,11 +63,11 @@ end-written k Y2013 v t (e, l10, l11, shown, codes, quality, is) = (
   refl,
 )
 
-pub end_stays : (e : Edition) (v : Last) (t : List ℕ) (w : EndLines e v t) → end_text (λ sort l. l) e v t w ≡ t
+pub end_stays : (e : Edition) (v : Option LastLines) (t : List ℕ) (w : EndLines e v t) → end_text (λ sort l. l) e v t w ≡ t
 end_stays Y1999 v t (shown, none) = sym none
 end_stays Y2013 v t (e, l10, l11, shown, codes, quality, is) = sym is
 
-pub end_short : (k : Kind) (e : Edition) (v : Last) (t : List ℕ) (w : EndLines e v t) → length (end_text (line_text k) e v t w) ≤ length t
+pub end_short : (k : Kind) (e : Edition) (v : Option LastLines) (t : List ℕ) (w : EndLines e v t) → length (end_text (line_text k) e v t w) ≤ length t
 end_short k Y1999 v t (shown, none) = omega arith
 end_short k Y2013 v t (e, l10, l11, shown, codes, quality, is) =
     let bare = text-line-short k Numbers l10 (λ e. clash (cc)) in

@@ -16,21 +16,19 @@ use native.Mathlib.Omega.{arith}
 use borrow.Author.Tests.{leb-true, le-leb, leb-false}
 use lib.Dec.{leb}
 use lib.ListN.{length, get_or}
-use Rattle.ground.specs.Said.{says, refuses, ◌>>◌, must}
+use Rattle.ground.specs.Said.{says, refuses, ◌>>◌, must, answer_said}
 use Rattle.ground.specs.Quoted.{quoted}
 use Rattle.ground.specs.Tables.{cat}
 use Rattle.ground.proofs.Cases.{on_test, clash}
-use Rattle.ground.proofs.SaidLaws.{must-told, bind-told}
+use Rattle.ground.proofs.SaidLaws.{must-told, bind-told, said-answered}
 use Rattle.model.specs.declared.Kind.{Kind}
 use Rattle.model.specs.declared.Refusal.{Refusal}
-use Rattle.model.specs.declared.Answer.TheVariants.{Yes}
+use Rattle.std.proofs.Common.{Ok}
 use Rattle.model.specs.Editions.{has_kind}
 use Rattle.model.specs.Refusals.{refused}
 use Rattle.config_rules.specs.declared.Config.{Config}
 use Rattle.config_rules.specs.Shown.{with_kind}
 use Rattle.config.specs.Config.{read_config}
-use Rattle.config.specs.Said.{config_said}
-use Rattle.config.proofs.SaidLaws.{config-said}
 use Rattle.paper.specs.Lines.{ended}
 use Rattle.paper.specs.Configuration.{Configuration}
 use Rattle.exact_config.proofs.ExactLaws.{config-exactly, one-config}
@@ -77,11 +75,11 @@ written-to : (s : List ℕ) (k : Kind) (room : ℕ) (w : List ℕ) → rewrite_s
     → (c : Config) × Configuration s c × (has_kind c.layout.edition k ≡ true) × (w ≡ rewritten c k s) × (length w ≤ 65536) × (length w ≤ room)
 unfolding rewrite_said
 written-to s k room w e =
-    let b = bind-told (config_said (read_config s)) (λ c. must (has_kind c.layout.edition k) (refused 10 0 0) >> result_said (rewritten c k s) room) w e in
+    let b = bind-told (answer_said (read_config s)) (λ c. must (has_kind c.layout.edition k) (refused 10 0 0) >> result_said (rewritten c k s) room) w e in
     let c = b.0 in
     let (has, said) = must-told (has_kind c.layout.edition k) (refused 10 0 0) (result_said (rewritten c k s) room) w b.2 in
     let (q, h, g) = result-to (rewritten c k s) w room said in
-    (c, (config-exactly s c).0 (config-said (read_config s) c b.1), has, q, h, g)
+    (c, (config-exactly s c).0 (said-answered (read_config s) c b.1), has, q, h, g)
 
 written_from : (s : List ℕ) (k : Kind) (room : ℕ) (w : List ℕ)
     → (c : Config) × Configuration s c × (has_kind c.layout.edition k ≡ true) × (w ≡ rewritten c k s) × (length w ≤ 65536) × (length w ≤ room)
@@ -94,10 +92,10 @@ pub rewritten-exactly : (s : List ℕ) (k : Kind) (room : ℕ) (w : List ℕ)
     ↔ ((c : Config) × Configuration s c × (has_kind c.layout.edition k ≡ true) × (w ≡ rewritten c k s) × (length w ≤ 65536) × (length w ≤ room))
 rewritten-exactly s k room w = (written-to s k room w, written_from s k room w)
 
-pub lacking-written : (s : List ℕ) (k : Kind) (room : ℕ) → (read_config s).answer ≡ Yes → has_kind (read_config s).config.layout.edition k ≡ false
+pub lacking-written : (s : List ℕ) (k : Kind) (room : ℕ) (c : Config) → read_config s ≡ Ok c → has_kind c.layout.edition k ≡ false
     → rewrite_said s k room ≡ refuses (refused 10 0 0)
 unfolding rewrite_said
-lacking-written s k room taken lacks = rw (taken, lacks)
+lacking-written s k room c taken lacks = rw (taken, lacks)
 
 -- what is written of the configuration s, which shows c
 module _ (s : List ℕ) (c : Config) (t : Configuration s c) (k : Kind) where
@@ -108,7 +106,7 @@ module _ (s : List ℕ) (c : Config) (t : Configuration s c) (k : Kind) where
       (rw same has, rw same q, h)
 
   pub written-accepted : (room : ℕ) (w : List ℕ) → rewrite_said s k room ≡ says w
-      → Configuration w (with_kind k c) × (read_config w ≡ record { answer = Yes; config = with_kind k c })
+      → Configuration w (with_kind k c) × (read_config w ≡ Ok (with_kind k c))
   written-accepted room w e =
       let (has, q, h) = written_is room w e in
       let u : Configuration w (with_kind k c) = rw q (rewritten-configuration s c t k has (rw q at h)) in

@@ -15,7 +15,7 @@ use lib.ListN.{length}
 use Rattle.ground.specs.Quoted.{quoted}
 use Rattle.ground.proofs.Cases.{clash}
 use Rattle.numerals.proofs.PlainLaws.{digits-no-space}
-use Rattle.reals.specs.declared.Real.{Real}
+use Rattle.reals.specs.declared.Sign as real
 use Rattle.paper.specs.Fields.{spaces, Sign, sign_text, none, Decimal, with_h, CountField, CountIn, Lettered, RealField, AnyReal, LimitField, Limits, CodeField, XField}
 use Rattle.paper.specs.Lines.{LocalField}
 use Rattle.exact.proofs.CountLaws.{digits-to, spaces-rest}
@@ -69,7 +69,7 @@ lettered-bare letter high v f w =
 decimal-bare : (n : ℕ) (g : Sign) (size f : List ℕ) → f ≡ spaces n ++ (sign_text g ++ size) → Decimal size → bare f ≡ sign_text g ++ size
 decimal-bare n g size f e d = spaces-rest n f (sign_text g ++ size) e (sign-spaces g size (decimal-first size d))
 
-pub real-bare : (r : Real) (f : List ℕ) → RealField r f → RealField r (bare f)
+pub real-bare : (r : real.Sign) (f : List ℕ) → RealField r f → RealField r (bare f)
 real-bare r f w =
     record {
       leading = 0;

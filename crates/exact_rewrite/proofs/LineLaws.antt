@@ -16,8 +16,8 @@ use lib.IntN.{ℤ}
 use lib.ListN.{length}
 use Rattle.text.specs.Fields.{field_count, field_at}
 use Rattle.numerals.specs.Counts.{leading_spaces}
-use Rattle.reals.specs.declared.Real.{Real}
-use Rattle.reals.specs.declared.Real.TheVariants as real
+use Rattle.reals.specs.declared.Sign.{Sign}
+use Rattle.reals.specs.declared.Sign.TheVariants.{Above}
 use Rattle.model.specs.declared.Kind.{Kind}
 use Rattle.model.specs.declared.Kind.TheVariants.{Ascii, Binary, Binary32}
 use Rattle.model.specs.declared.Edition.{Edition}
@@ -151,7 +151,7 @@ rates-written k n l = numbers-line k l (λ w.
       rates = in-bare 3 0 8 n (w.f 1) w.rates;
     })
 
-pub rate-written : (k : Kind) (sign : Real) (before last : ℕ) (l : List ℕ) → Line (RateLine sign before last) l → Line (RateLine sign before last) (line_text k Numbers l)
+pub rate-written : (k : Kind) (sign : Sign) (before last : ℕ) (l : List ℕ) → Line (RateLine sign before last) l → Line (RateLine sign before last) (line_text k Numbers l)
 unfolding is_number
 rate-written k sign before last l = numbers-line k l (λ w.
     record {
@@ -168,7 +168,7 @@ multiplier-written k l = numbers-line k l (λ w.
     record {
       f = λ i. field_text (is_number Numbers i) (w.f i);
       fields = fields-written Numbers 1 w.f l (lit≤ tt) w.fields;
-      multiplier = real-bare real.Above (w.f 1) w.multiplier;
+      multiplier = real-bare Above (w.f 1) w.multiplier;
     })
 
 pub codes-written : (k : Kind) (z w : ℤ) (x : Bool) (l : List ℕ) → Line (CodesLine z w x) l → Line (CodesLine z w x) (line_text k Numbers l)

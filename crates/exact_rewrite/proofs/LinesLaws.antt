@@ -18,7 +18,7 @@ use lib.ListN.{length, take, drop, get_or, replicate, length-append}
 use Rattle.ground.specs.Quoted.{quoted}
 use Rattle.ground.specs.Tables.{cat}
 use Rattle.ground.proofs.Tables.{cat-front, cat-ext}
-use Rattle.reals.specs.declared.Real.{Real}
+use Rattle.reals.specs.declared.Sign.{Sign}
 use Rattle.paper.specs.Lines.{Line, ended, RateLine}
 use Rattle.paper.specs.Configuration.{Lines, RateLines}
 use Rattle.rewrite_lines.specs.declared.LineSort.{LineSort}
@@ -79,7 +79,7 @@ module _ (anew : LineSort → List ℕ → List ℕ) where
   group_lines sort each i (suc m) t (l, r, e, q, rest) =
       (anew sort l, lines_text anew (replicate m sort) r, first sort m l r t e q, each i l q, group_lines sort each (i + 1) m r rest)
 
-  pub rate-group : {sign : Real} (sort : LineSort) → ((before last : ℕ) (l : List ℕ) → Line (RateLine sign before last) l → Line (RateLine sign before last) (anew sort l))
+  pub rate-group : {sign : Sign} (sort : LineSort) → ((before last : ℕ) (l : List ℕ) → Line (RateLine sign before last) l → Line (RateLine sign before last) (anew sort l))
       → (before : ℕ) (lasts t : List ℕ) → RateLines sign before lasts t → RateLines sign before lasts (lines_text anew (replicate (length lasts) sort) t)
   rate-group sort each before [] t e = none t
   rate-group sort each before (n ∷ lasts) t (l, r, e, q, rest) =
@@ -101,7 +101,7 @@ module _ (anew : LineSort → List ℕ → List ℕ) where
       ∙ ap (◌++◌ (f 0)) (lines_are more r ∙ cat-ext (λ i. ended (anew (get_or more i Kept) (line_at i r))) (λ i. f (i + 1)) (length more) (λ i h. rw add-one))
       ∙ sym (cat-front f (length more))
 
-pub rate-lines : (sign : Real) (i before : ℕ) (lasts t : List ℕ) → RateLines sign before lasts t → Lines (λ j l. Unit {0}) i (length lasts) t
+pub rate-lines : (sign : Sign) (i before : ℕ) (lasts t : List ℕ) → RateLines sign before lasts t → Lines (λ j l. Unit {0}) i (length lasts) t
 rate-lines sign i before [] t e = e
 rate-lines sign i before (n ∷ lasts) t (l, r, e, q, rest) = (l, r, e, record { bytes = q.bytes; is = tt }, rate-lines sign (i + 1) n lasts r rest)
 

@@ -3,9 +3,9 @@
 -- Assumes nothing.
 use mathlib.Core.Path.{◌≡◌, refl}
 use Rattle.ground.specs.Quoted.{quoted}
-use Rattle.fields.specs.declared.Field.TheVariants.{Is}
+use Rattle.std.proofs.Common.{Ok}
 use Rattle.fields.specs.Fields.{read_one_of, digit_value, read_digit_of, read_quality}
 
-pub example : read_quality (quoted "f") ≡ Is 15
+pub example : read_quality (quoted "f") ≡ Ok 15
 unfolding read_one_of digit_value read_digit_of read_quality
 example = refl

@@ -7,44 +7,26 @@ ghost use Rattle.fields.specs.Fields.{in_range, read_count_in, read_lettered, re
 ghost use Rattle.fields.specs.Fields.{read_state, read_side, read_quality, read_leap, small, same_word, read_kind};
 
 use model::Kind;
-use numerals::Count;
-
-// A value, a wrong form, or a value that is not allowed.
-#[derive(Clone, Copy)]
-pub enum Field {
-    Is(u64),
-    Form,
-    Range,
-}
-
-// A kind, a wrong form, or a word that is no kind's.
-#[derive(Clone, Copy)]
-pub enum KindField {
-    Is(Kind),
-    Form,
-    Range,
-}
+use numerals::FieldError;
 
 // A count that must be low to high.
-fn in_range(count: Count, low: u64, high: u64) -> Field
+#[tactic(auto, unfolding(crate::specs::Fields::in_range))]
+fn in_range(count: Option<u64>, low: u64, high: u64) -> Result<u64, FieldError>
     ensures { result ≡ in_range low high count }
 {
-    match count {
-        Count::Form => Field::Form,
-        Count::Is(v) => {
-            if v < low {
-                return Field::Range;
-            }
-            if high < v {
-                return Field::Range;
-            }
-            Field::Is(v)
-        }
+    let v = count.ok_or(FieldError::Form)?;
+    if v < low {
+        return Err(FieldError::Range);
     }
+    if high < v {
+        return Err(FieldError::Range);
+    }
+    Ok(v)
 }
 
 // A count of 1 to `most` characters, low to high.
-pub fn read_count_in(field: &[u8], most: usize, low: u64, high: u64) -> Field
+#[tactic(auto, unfolding(crate::specs::Fields::read_count_in))]
+pub fn read_count_in(field: &[u8], most: usize, low: u64, high: u64) -> Result<u64, FieldError>
     requires { most ≤ 19 }
     ensures { result ≡ read_count_in most low high field.now }
 {
@@ -53,25 +35,27 @@ pub fn read_count_in(field: &[u8], most: usize, low: u64, high: u64) -> Field
 }
 
 // A count of 1 to 6 characters and then a letter, 0 to high.
-pub fn read_lettered(field: &[u8], letter: u8, high: u64) -> Field
+#[tactic(auto, unfolding(crate::specs::Fields::read_lettered))]
+pub fn read_lettered(field: &[u8], letter: u8, high: u64) -> Result<u64, FieldError>
     ensures { result ≡ read_lettered letter high field.now }
 {
     if !numerals::length_in(field, 2, 7) {
-        return Field::Form;
+        return Err(FieldError::Form);
     }
     let n = field.len() - 1;
     if field[n] != letter {
-        return Field::Form;
+        return Err(FieldError::Form);
     }
     read_count_in(&field[..n], 6, 0, high)
 }
 
 // A year: four digits.
-pub fn read_year(field: &[u8]) -> Count
+#[tactic(auto, unfolding(crate::specs::Fields::read_year))]
+pub fn read_year(field: &[u8]) -> Option<u64>
     ensures { result ≡ read_year field.now }
 {
     if !numerals::length_in(field, 4, 4) {
-        return Count::Form;
+        return None;
     }
     numerals::number_of(field)
 }
@@ -80,28 +64,22 @@ pub fn read_year(field: &[u8]) -> Count
 fn is_among(b: u8, allowed: &[u8]) -> bool
     ensures { result ≡ is_among b allowed.now }
 {
-    let mut i = 0;
-    while i < allowed.len() {
-        if allowed[i] == b {
-            return true;
-        }
-        i += 1;
-    }
-    false
+    allowed.contains(&b)
 }
 
 // One character, and one of those allowed.
-pub fn read_one_of(field: &[u8], allowed: &[u8]) -> Field
+#[tactic(auto, unfolding(crate::specs::Fields::read_one_of))]
+pub fn read_one_of(field: &[u8], allowed: &[u8]) -> Result<u64, FieldError>
     ensures { result ≡ read_one_of allowed.now field.now }
 {
     if field.len() != 1 {
-        return Field::Form;
+        return Err(FieldError::Form);
     }
     let b = field[0];
     if is_among(b, allowed) {
-        return Field::Is(b as u64);
+        return Ok(b as u64);
     }
-    Field::Range
+    Err(FieldError::Range)
 }
 
 // b less k, and 0 where k is larger.
@@ -112,6 +90,7 @@ fn less(b: u64, k: u64) -> u64
 }
 
 // What a digit is worth, a hexadecimal one in either case.
+#[tactic(auto, unfolding(crate::specs::Fields::digit_value))]
 fn digit_value(b: u64) -> u64
     ensures { result ≡ digit_value b }
 {
@@ -125,45 +104,48 @@ fn digit_value(b: u64) -> u64
 }
 
 // One digit, and one of those allowed.
-fn read_digit_of(field: &[u8], allowed: &[u8]) -> Field
+#[tactic(auto, unfolding(crate::specs::Fields::read_digit_of))]
+fn read_digit_of(field: &[u8], allowed: &[u8]) -> Result<u64, FieldError>
     ensures { result ≡ read_digit_of allowed.now field.now }
 {
-    match read_one_of(field, allowed) {
-        Field::Is(b) => Field::Is(digit_value(b)),
-        Field::Form => Field::Form,
-        Field::Range => Field::Range,
-    }
+    let b = read_one_of(field, allowed)?;
+    Ok(digit_value(b))
 }
 
 // The normal state of a status channel.
-pub fn read_state(field: &[u8]) -> Field
+#[tactic(auto, unfolding(crate::specs::Fields::read_state))]
+pub fn read_state(field: &[u8]) -> Result<u64, FieldError>
     ensures { result ≡ read_state field.now }
 {
     read_digit_of(field, b"01")
 }
 
 // Whether primary or secondary values are meant.
-pub fn read_side(field: &[u8]) -> Field
+#[tactic(auto, unfolding(crate::specs::Fields::read_side))]
+pub fn read_side(field: &[u8]) -> Result<u64, FieldError>
     ensures { result ≡ read_side field.now }
 {
     read_one_of(field, b"pPsS")
 }
 
 // The time quality.
-pub fn read_quality(field: &[u8]) -> Field
+#[tactic(auto, unfolding(crate::specs::Fields::read_quality))]
+pub fn read_quality(field: &[u8]) -> Result<u64, FieldError>
     ensures { result ≡ read_quality field.now }
 {
     read_digit_of(field, b"0123456789ABFabf")
 }
 
 // The leap second code.
-pub fn read_leap(field: &[u8]) -> Field
+#[tactic(auto, unfolding(crate::specs::Fields::read_leap))]
+pub fn read_leap(field: &[u8]) -> Result<u64, FieldError>
     ensures { result ≡ read_leap field.now }
 {
     read_digit_of(field, b"0123")
 }
 
 // A capital letter as a small one.
+#[tactic(auto, unfolding(crate::specs::Fields::small))]
 fn small(b: u8) -> u8
     ensures { result ≡ small b }
 {
@@ -180,34 +162,25 @@ fn small(b: u8) -> u8
 fn same_word(word: &[u8], field: &[u8]) -> bool
     ensures { result ≡ same_word word.now field.now }
 {
-    if word.len() != field.len() {
-        return false;
-    }
-    let mut i = 0;
-    while i < word.len() {
-        if small(field[i]) != word[i] {
-            return false;
-        }
-        i += 1;
-    }
-    true
+    word.len() == field.len() && word.iter().zip(field).all(|(w, b)| small(*b) == *w)
 }
 
 // The kind of data file, by its word.
-pub fn read_kind(field: &[u8]) -> KindField
+#[tactic(auto, unfolding(crate::specs::Fields::read_kind))]
+pub fn read_kind(field: &[u8]) -> Result<Kind, FieldError>
     ensures { result ≡ read_kind field.now }
 {
     if !numerals::length_in(field, 5, 8) {
-        return KindField::Form;
+        return Err(FieldError::Form);
     }
     if same_word(b"ascii", field) {
-        return KindField::Is(Kind::Ascii);
+        return Ok(Kind::Ascii);
     }
     if same_word(b"binary", field) {
-        return KindField::Is(Kind::Binary);
+        return Ok(Kind::Binary);
     }
     if same_word(b"binary32", field) {
-        return KindField::Is(Kind::Binary32);
+        return Ok(Kind::Binary32);
     }
-    KindField::Range
+    Err(FieldError::Range)
 }

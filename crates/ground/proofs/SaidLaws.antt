@@ -5,6 +5,8 @@
 --     bind_assoc                three in a row, however they are bracketed
 --     no_byte                   a refusal leaves a lent buffer as it was
 --     filled-told               a part that was lent and filled with what was said: the buffer is what was said over the old one
+--     answer-told, refusal-told what the code answers, where it is said and where it is refused
+--     said-answered             and back: an answer says a where it is a
 --     only-told                 what was said stands at the buffer's front, what follows it is as it was, and so is the length
 -- Assumes nothing.
 use mathlib.Core.Path.{◌≡◌, refl}
@@ -14,7 +16,8 @@ use Prim.Native.Nat.{ℕ, ◌≤◌}
 use native.Mathlib.Omega.{arith}
 use lib.ListN.{length, take, drop, length-append, length-drop}
 use lib.Seq.{take_at, drop_at}
-use Rattle.ground.specs.Said.{Said, says, refuses, ◌>>=◌, ◌>>◌, must, over}
+use Rattle.std.proofs.Common.{Result, Ok, Err}
+use Rattle.ground.specs.Said.{Said, says, refuses, ◌>>=◌, ◌>>◌, must, over, answer_of, answer_said}
 use Rattle.ground.proofs.Cases.{clash}
 
 pub must-told : {R B : Type 0} (t : Bool) (r : R) (x : Said R B) (b : B) → (must t r >> x) ≡ says b → (t ≡ true) × (x ≡ says b)
@@ -40,6 +43,18 @@ bind-ext (refuses r) f g h = refl
 pub bind_assoc : {R A B C : Type 0} (x : Said R A) (f : A → Said R B) (g : B → Said R C) → (x >>= f >>= g) ≡ (x >>= λ a. f a >>= g)
 bind_assoc (says a) f g = refl
 bind_assoc (refuses r) f g = refl
+
+pub answer-told : {R A : Type 0} (x : Said R A) (a : A) → answer_of x ≡ Ok a → x ≡ says a
+answer-told (says b) a e = cc
+answer-told (refuses r) a e = clash (cc)
+
+pub refusal-told : {R A : Type 0} (x : Said R A) (r : R) → answer_of x ≡ Err r → x ≡ refuses r
+refusal-told (says b) r e = clash (cc)
+refusal-told (refuses q) r e = cc
+
+pub said-answered : {R A : Type 0} (x : Result A R) (a : A) → answer_said x ≡ says a → x ≡ Ok a
+said-answered (Ok b) a e = cc
+said-answered (Err r) a e = clash (cc)
 
 pub filled-told : {R A : Type 0} (x : Said R (List A)) (new old filled : List A) (m : ℕ) → x ≡ says new → filled ≡ new → m ≡ length new
     → filled ++ drop m old ≡ over x old

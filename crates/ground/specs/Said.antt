@@ -1,5 +1,5 @@
 -- What a rule says of its input, or why it refuses it. A rule is a do block over this, read from the top in the order of the refusals.
-use Rattle.std.specs.Prelude.{Bool, List, ◌++◌, length, drop, if◌then◌else◌}
+use Rattle.std.specs.Prelude.{Bool, List, ◌++◌, length, drop, Result, Ok, Err, if◌then◌else◌}
 
 infixl 20 ◌>>=◌
 infixl 20 ◌>>◌
@@ -21,6 +21,16 @@ abbrev pub ◌>>◌ : {R B : Type 0} → Said R (Unit {0}) → Said R B → Said
 -- a test that must hold, or the refusal
 abbrev pub must : {R : Type 0} → Bool → R → Said R (Unit {0})
 must t r = if t then says tt else refuses r
+
+-- what the code answers for it: the value, or the refusal
+abbrev pub answer_of : {R A : Type 0} → Said R A → Result A R
+answer_of (says a) = Ok a
+answer_of (refuses r) = Err r
+
+-- what an answer says
+abbrev pub answer_said : {R A : Type 0} → Result A R → Said R A
+answer_said (Ok a) = says a
+answer_said (Err r) = refuses r
 
 -- what a lent buffer ends as: what was said, and then what stood there; a refusal leaves it as it was
 abbrev pub over : {R A : Type 0} → Said R (List A) → List A → List A

@@ -3,35 +3,28 @@
 --     FaultPlaced                       4 for the whole line, 5 to 8 at a field, counted from 1
 --     text-check, index-check, real-check, frequency-check, above-check, zero-check, rate-check, value-check     each check has such a number
 --     Ruled                             a rule that refuses only so
---     has-fields-ruled, faultless-ruled, agrees-ruled, number-ruled     the checks that a line is made of
+--     has-fields-ruled, faultless-ruled, agrees-ruled, value-ruled     the checks that a line is made of
 --     then-ruled, bind-ruled            and what is made of two of them
---     fault-numbered                    a refusal has a number: 0 stands for a line that is fine
---     part-is                           so a part of a line is the test of its fault's number
 -- Assumes nothing.
-use mathlib.Core.Path.{◌≡◌, refl}
 use mathlib.Core.Bool.{Bool, true, false}
 use mathlib.Core.List.{List}
 use Prim.Native.Nat.{ℕ, ◌≤◌}
-use native.Mathlib.Omega.{arith}
-use borrow.Author.Tests.{ne_eqb}
 use lib.Dec.{eqb}
 use lib.ListN.{length}
-use Rattle.ground.specs.Said.{Said, says, refuses, ◌>>=◌, ◌>>◌, must}
+use Rattle.ground.specs.Said.{Said, ◌>>=◌, ◌>>◌, must}
 use Rattle.ground.proofs.Cases.{on_test}
 use Rattle.ground.proofs.RefusalLaws.{RefusesOnly, only-must, only_then, only-bind}
 use Rattle.text.specs.Fields.{field_count, field_at}
-use Rattle.numerals.specs.declared.Count.{Count}
-use Rattle.numerals.specs.declared.Count.TheVariants as count
+use Rattle.std.proofs.Common.{Err, None, Ok, Option, Result, Some}
+use Rattle.reals.specs.declared.Sign.{Sign}
+use Rattle.numerals.specs.declared.FieldError.{FieldError}
+use Rattle.numerals.specs.declared.FieldError.TheVariants.{Form, Range}
+use Rattle.reals.specs.declared.Sign.TheVariants.{Above, Below, Zero}
 use Rattle.numerals.specs.Counts.{length_in, read_count}
-use Rattle.fields.specs.declared.Field.{Field}
-use Rattle.fields.specs.declared.Field.TheVariants as field
-use Rattle.reals.specs.declared.Real.{Real}
-use Rattle.reals.specs.declared.Real.TheVariants as real
 use Rattle.reals.specs.Forms.{read_real}
 use Rattle.line_fields.specs.declared.Fault.{Fault}
-use Rattle.line_fields.specs.Faults.{value_of, text_fault, index_is, index_fault, any_real, real_fault, frequency_fault, above_zero, above_fault, at_zero, zero_fault, rate_fault}
-use Rattle.line_fields.specs.Checks.{fault, has_fields, faultless, number_at}
-use Rattle.line_fields.specs.Answers.{fault_of}
+use Rattle.line_fields.specs.Faults.{number_of_read, text_fault, index_is, index_fault, any_real, real_fault, frequency_fault, above_zero, above_fault, at_zero, zero_fault, rate_fault}
+use Rattle.line_fields.specs.Checks.{fault, has_fields, faultless, value_at}
 
 -- a field's number: 0 where it is fine
 pub data FieldNumber : ℕ → Type 0 where
@@ -57,19 +50,19 @@ pub index-check : (i : ℕ) (f : List ℕ) → FieldNumber (index_fault i f)
 unfolding index_fault
 index-check i f = go (read_count 1 6 f)
   where
-    go : (v : Count) → FieldNumber (index_is i v)
-    go count.Form = of-form
-    go (count.Is v) = on_test (eqb v i) (λ e. rw e fine-field) (λ e. rw e of-agreement)
+    go : (v : Option ℕ) → FieldNumber (index_is i v)
+    go None = of-form
+    go (Some v) = on_test (eqb v i) (λ e. rw e fine-field) (λ e. rw e of-agreement)
 
 pub real-check : (f : List ℕ) → FieldNumber (real_fault f)
 unfolding real_fault
 real-check f = go (read_real 1 32 f)
   where
-    go : (v : Real) → FieldNumber (any_real v)
-    go real.Below = fine-field
-    go real.Zero = fine-field
-    go real.Above = fine-field
-    go real.Form = of-form
+    go : (v : Option Sign) → FieldNumber (any_real v)
+    go (Some Below) = fine-field
+    go (Some Zero) = fine-field
+    go (Some Above) = fine-field
+    go None = of-form
 
 pub frequency-check : (f : List ℕ) → FieldNumber (frequency_fault f)
 unfolding frequency_fault
@@ -79,30 +72,30 @@ pub above-check : (f : List ℕ) → FieldNumber (above_fault f)
 unfolding above_fault
 above-check f = go (read_real 1 32 f)
   where
-    go : (v : Real) → FieldNumber (above_zero v)
-    go real.Below = of_range
-    go real.Zero = of_range
-    go real.Above = fine-field
-    go real.Form = of-form
+    go : (v : Option Sign) → FieldNumber (above_zero v)
+    go (Some Below) = of_range
+    go (Some Zero) = of_range
+    go (Some Above) = fine-field
+    go None = of-form
 
 pub zero-check : (f : List ℕ) → FieldNumber (zero_fault f)
 unfolding zero_fault
 zero-check f = go (read_real 1 32 f)
   where
-    go : (v : Real) → FieldNumber (at_zero v)
-    go real.Below = of_range
-    go real.Zero = fine-field
-    go real.Above = of_range
-    go real.Form = of-form
+    go : (v : Option Sign) → FieldNumber (at_zero v)
+    go (Some Below) = of_range
+    go (Some Zero) = fine-field
+    go (Some Above) = of_range
+    go None = of-form
 
 pub rate-check : (none : Bool) (f : List ℕ) → FieldNumber (rate_fault none f)
 rate-check true f = zero-check f
 rate-check false f = above-check f
 
-pub value-check : (v : Field) → FieldNumber (value_of v).number
-value-check (field.Is v) = fine-field
-value-check field.Form = of-form
-value-check field.Range = of_range
+pub value-check : {A : Type 0} (v : Result A FieldError) → FieldNumber (number_of_read v)
+value-check (Ok v) = fine-field
+value-check (Err Form) = of-form
+value-check (Err Range) = of_range
 
 -- A line refuses only so: FaultPlaced
 abbrev pub Ruled : {A : Type 0} → Said Fault A → Type 0
@@ -132,19 +125,7 @@ module _ (k : ℕ) (h : 1 ≤ k) where
   pub agrees-ruled : (t : Bool) → Ruled (must t (fault 7 k))
   agrees-ruled t = only-must FaultPlaced t (fault 7 k) (λ e. agreement k h)
 
-  pub number-ruled : (v : Field) → Ruled (number_at k v)
-  number-ruled (field.Is v) = tt
-  number-ruled field.Form = form k h
-  number-ruled field.Range = range k h
-
-pub fault-numbered : {f : Fault} → FaultPlaced f → f.number ≡ 0 → ⊥
-fault-numbered whole z = absurd (omega arith)
-fault-numbered (form k h) z = absurd (omega arith)
-fault-numbered (range k h) z = absurd (omega arith)
-fault-numbered (agreement k h) z = absurd (omega arith)
-fault-numbered (year k h) z = absurd (omega arith)
-
--- a part is the test of its fault's number, which the code makes
-pub part-is : (x : Said Fault (Unit {0})) → Ruled x → x ≡ must (eqb (fault_of x).number 0) (fault_of x)
-part-is (says tt) h = refl
-part-is (refuses f) h = rw (ne_eqb f.number 0 (fault-numbered h))
+  pub value-ruled : {A : Type 0} (v : Result A FieldError) → Ruled (value_at k v)
+  value-ruled (Ok v) = tt
+  value-ruled (Err Form) = form k h
+  value-ruled (Err Range) = range k h

@@ -1,26 +1,20 @@
 // What is wrong with a field of a configuration's line, as the paper's number, and the fault of a line.
-// Each check answers for any bytes: 0 where the field is fine.
+// Each check answers for any bytes: the number of what is wrong with the field, or that it is fine.
 #![tactic(auto)]
 
 ghost use Rattle.std.specs.Prelude.{◌≡◌};
-ghost use Rattle.line_fields.specs.Faults.{value_of, text_fault, index_fault, real_fault, frequency_fault, above_fault, zero_fault, rate_fault, side_fault, state_fault};
+ghost use Rattle.ground.specs.Said.{answer_of};
+ghost use Rattle.line_fields.specs.Faults.{checked, error_number, text_fault, index_fault, real_fault, frequency_fault, above_fault, zero_fault, rate_fault, side_fault, state_fault};
+ghost use Rattle.line_fields.specs.Checks.{has_fields, value_at, fine_at};
 
-use fields::Field;
-use numerals::Count;
-use reals::Real;
+use numerals::FieldError;
+use reals::Sign;
 
-// A refusal's number and field; zeros for none.
+// A refusal's number and field; field 0 is the whole line.
 #[derive(Clone, Copy)]
 pub struct Fault {
     pub number: u32,
     pub field: u32,
-}
-
-// A field's value beside its number.
-#[derive(Clone, Copy)]
-pub struct Value {
-    pub number: u32,
-    pub value: u64,
 }
 
 // A fault.
@@ -33,89 +27,106 @@ pub fn at(number: u32, field: u32) -> Fault
     }
 }
 
-// A field's value beside its number.
-pub fn value_of(field: Field) -> Value
-    ensures { result ≡ value_of field }
+// The paper's number of what is wrong with a field.
+pub fn error_number(error: FieldError) -> u32
+    ensures { result ≡ error_number error }
 {
-    match field {
-        Field::Is(v) => Value {
-            number: 0,
-            value: v,
-        },
-        Field::Form => Value {
-            number: 5,
-            value: 0,
-        },
-        Field::Range => Value {
-            number: 6,
-            value: 0,
-        },
+    match error {
+        FieldError::Form => 5,
+        FieldError::Range => 6,
     }
 }
 
-// What is wrong with a field: 0 where it is fine.
-pub fn text_fault(field: &[u8], least: usize, most: usize) -> u32
-    ensures { result ≡ text_fault least most field.now }
+// A line has so many fields.
+pub fn has_fields(line: &[u8], count: usize) -> Result<(), Fault>
+    ensures { result ≡ answer_of (has_fields count line.now) }
 {
-    if numerals::length_in(field, least, most) {
-        return 0;
+    if text::field_count(line) != count {
+        return Err(at(4, 0));
     }
-    5
+    Ok(())
 }
 
-pub fn index_fault(field: &[u8], i: u64) -> u32
-    ensures { result ≡ index_fault i field.now }
+// What was read in a field, or the line's fault.
+pub fn value_at<T>(field: u32, read: Result<T, FieldError>) -> Result<T, Fault>
+    ensures { result ≡ answer_of (value_at field read) }
 {
-    match numerals::read_count(field, 1, 6) {
-        Count::Form => 5,
-        Count::Is(v) => { if v == i { 0 } else { 7 } }
-    }
+    read.map_err(|error| at(error_number(error), field))
 }
 
-pub fn real_fault(field: &[u8]) -> u32
-    ensures { result ≡ real_fault field.now }
+// That a field is fine, or the line's fault.
+pub fn fine_at(field: u32, check: Result<(), u32>) -> Result<(), Fault>
+    ensures { result ≡ fine_at field check }
+{
+    check.map_err(|number| at(number, field))
+}
+
+// What is wrong with a field.
+#[tactic(auto, unfolding(crate::specs::Faults::text_fault))]
+pub fn text_fault(field: &[u8], least: usize, most: usize) -> Result<(), u32>
+    ensures { result ≡ checked (text_fault least most field.now) }
+{
+    if !numerals::length_in(field, least, most) {
+        return Err(5);
+    }
+    Ok(())
+}
+
+#[tactic(auto, unfolding(crate::specs::Faults::index_fault))]
+pub fn index_fault(field: &[u8], i: u64) -> Result<(), u32>
+    ensures { result ≡ checked (index_fault i field.now) }
+{
+    let v = numerals::read_count(field, 1, 6).ok_or(5u32)?;
+    if v != i {
+        return Err(7);
+    }
+    Ok(())
+}
+
+#[tactic(auto, unfolding(crate::specs::Faults::real_fault))]
+pub fn real_fault(field: &[u8]) -> Result<(), u32>
+    ensures { result ≡ checked (real_fault field.now) }
 {
     match reals::read_real(field, 1, 32) {
-        Real::Below => 0,
-        Real::Zero => 0,
-        Real::Above => 0,
-        Real::Form => 5,
+        Some(_) => Ok(()),
+        None => Err(5),
     }
 }
 
-pub fn frequency_fault(field: &[u8]) -> u32
-    ensures { result ≡ frequency_fault field.now }
+#[tactic(auto, unfolding(crate::specs::Faults::frequency_fault))]
+pub fn frequency_fault(field: &[u8]) -> Result<(), u32>
+    ensures { result ≡ checked (frequency_fault field.now) }
 {
-    if field.len() == 0 {
-        return 0;
+    if field.is_empty() {
+        return Ok(());
     }
     real_fault(field)
 }
 
-pub fn above_fault(field: &[u8]) -> u32
-    ensures { result ≡ above_fault field.now }
+#[tactic(auto, unfolding(crate::specs::Faults::above_fault))]
+pub fn above_fault(field: &[u8]) -> Result<(), u32>
+    ensures { result ≡ checked (above_fault field.now) }
 {
     match reals::read_real(field, 1, 32) {
-        Real::Below => 6,
-        Real::Zero => 6,
-        Real::Above => 0,
-        Real::Form => 5,
+        Some(Sign::Above) => Ok(()),
+        Some(Sign::Below | Sign::Zero) => Err(6),
+        None => Err(5),
     }
 }
 
-pub fn zero_fault(field: &[u8]) -> u32
-    ensures { result ≡ zero_fault field.now }
+#[tactic(auto, unfolding(crate::specs::Faults::zero_fault))]
+pub fn zero_fault(field: &[u8]) -> Result<(), u32>
+    ensures { result ≡ checked (zero_fault field.now) }
 {
     match reals::read_real(field, 1, 32) {
-        Real::Below => 6,
-        Real::Zero => 0,
-        Real::Above => 6,
-        Real::Form => 5,
+        Some(Sign::Zero) => Ok(()),
+        Some(Sign::Below | Sign::Above) => Err(6),
+        None => Err(5),
     }
 }
 
-pub fn rate_fault(field: &[u8], none: bool) -> u32
-    ensures { result ≡ rate_fault none field.now }
+pub fn rate_fault(field: &[u8], none: bool) -> Result<(), u32>
+    ensures { result ≡ checked (rate_fault none field.now) }
 {
     if none {
         return zero_fault(field);
@@ -123,16 +134,16 @@ pub fn rate_fault(field: &[u8], none: bool) -> u32
     above_fault(field)
 }
 
-pub fn side_fault(field: &[u8]) -> u32
-    ensures { result ≡ side_fault field.now }
+pub fn side_fault(field: &[u8]) -> Result<(), u32>
+    ensures { result ≡ checked (side_fault field.now) }
 {
-    let v = value_of(fields::read_side(field));
-    v.number
+    fields::read_side(field).map_err(error_number)?;
+    Ok(())
 }
 
-pub fn state_fault(field: &[u8]) -> u32
-    ensures { result ≡ state_fault field.now }
+pub fn state_fault(field: &[u8]) -> Result<(), u32>
+    ensures { result ≡ checked (state_fault field.now) }
 {
-    let v = value_of(fields::read_state(field));
-    v.number
+    fields::read_state(field).map_err(error_number)?;
+    Ok(())
 }

@@ -6,8 +6,7 @@ use Rattle.numerals.specs.Decimals.{decimal, plain}
 use Rattle.model.specs.declared.Layout.{Layout}
 use Rattle.model.specs.declared.Row.{Row}
 use Rattle.model.specs.declared.Refusal.{Refusal}
-use Rattle.model.specs.declared.Sample.{Sample}
-use Rattle.model.specs.declared.Sample.TheVariants.{Is, Missing, No}
+use Rattle.std.specs.Prelude.{Err, None, Ok, Option, Result, Some, ℤ}
 use Rattle.model.specs.Kinds.{kind_name}
 use Rattle.model.specs.Rows.{sample_at, status_at, status_value}
 
@@ -26,10 +25,10 @@ head_line l =
     ++ quoted "\n"
 
 -- a sample in a listing: its number, or x where it is missing
-unfoldable pub sample_word : Sample → List ℕ
-sample_word (Is z) = plain z
-sample_word Missing = quoted "x"
-sample_word (No r) = []
+unfoldable pub sample_word : Result (Option ℤ) Refusal → List ℕ
+sample_word (Ok (Some z)) = plain z
+sample_word (Ok None) = quoted "x"
+sample_word (Err r) = []
 
 -- the samples of the first a channels, a space before each
 unfoldable pub spaced_samples : Row → ℕ → List ℕ

@@ -11,7 +11,7 @@ ghost use Rattle.pieces.specs.Inner.{Put};
 ghost use Rattle.list_lines.specs.Lines.{named, head_line, sample_word, spaced_samples, spaced_status, spaced_statuses, row_line, refusal_line};
 ghost use Rattle.list_lines.specs.Inner.{line_most};
 
-use model::{AnalogNo, Layout, Refusal, Row, Sample, Status, StatusNo};
+use model::{AnalogNo, Layout, Refusal, Row, StatusNo};
 
 // The plain decimal of v, at most 10 characters.
 fn put_count(out: &mut [u8], n: usize, v: u32) -> usize
@@ -36,6 +36,7 @@ fn put_named(out: &mut [u8], n: usize, name: &[u8], v: u32) -> usize
 }
 
 // The first line of a listing.
+#[tactic(auto, unfolding(crate::specs::Lines::head_line))]
 pub fn put_head_line(out: &mut [u8], layout: Layout) -> usize
     requires { 64 ≤ length out.old }
     ensures put { Put out.old 0 (head_line layout) out.new result }
@@ -64,15 +65,16 @@ fn put_number(out: &mut [u8], n: usize, z: i32) -> usize
 }
 
 // A space and a sample, an x for a missing one; at most 12 characters.
-fn put_sample(out: &mut [u8], n: usize, sample: Sample) -> usize
+#[tactic(auto, unfolding(crate::specs::Lines::sample_word))]
+fn put_sample(out: &mut [u8], n: usize, sample: Result<Option<i32>, Refusal>) -> usize
     requires { n + 12 ≤ length out.old }
     ensures put { Put out.old n (32 ∷ sample_word sample) out.new result }
     ensures upper_bound { result ≤ n + 12 }
 {
     match sample {
-        Sample::Is(z) => put_number(out, n, z),
-        Sample::Missing => pieces::put_all(out, n, b" x"),
-        Sample::No(_) => pieces::put_all(out, n, b" "),
+        Ok(Some(z)) => put_number(out, n, z),
+        Ok(None) => pieces::put_all(out, n, b" x"),
+        Err(_) => pieces::put_all(out, n, b" "),
     }
 }
 
@@ -82,10 +84,8 @@ fn put_samples(out: &mut [u8], n: usize, row: Row, a: u16) -> usize
     ensures put { Put out.old n (spaced_samples row a) out.new result }
     ensures upper_bound { result ≤ n + 12 * a }
 {
-    let mut i: u16 = 0;
     let mut to = n;
-    while i < a {
-        i += 1;
+    for i in 1..=a {
         to = put_sample(out, to, row.sample(AnalogNo(i)));
     }
     to
@@ -95,14 +95,11 @@ fn put_samples(out: &mut [u8], n: usize, row: Row, a: u16) -> usize
 fn status_of(row: Row, channel: StatusNo) -> bool
     ensures { result ≡ status_value (status_at channel.0 row) }
 {
-    let status = row.status(channel);
-    match status {
-        Status::Is(on) => on,
-        Status::No(_) => false,
-    }
+    row.status(channel).unwrap_or(false)
 }
 
 // A space and a status.
+#[tactic(auto, unfolding(crate::specs::Lines::spaced_status))]
 fn put_status(out: &mut [u8], n: usize, on: bool) -> usize
     requires { n + 2 ≤ length out.old }
     ensures { Put out.old n (spaced_status on) out.new result }
@@ -119,16 +116,15 @@ fn put_statuses(out: &mut [u8], n: usize, row: Row, d: u16) -> usize
     ensures put { Put out.old n (spaced_statuses row d) out.new result }
     ensures upper_bound { result ≤ n + 2 * d }
 {
-    let mut i: u16 = 0;
     let mut to = n;
-    while i < d {
-        i += 1;
+    for i in 1..=d {
         to = put_status(out, to, status_of(row, StatusNo(i)));
     }
     to
 }
 
 // The line of row n.
+#[tactic(auto, unfolding(crate::specs::Lines::row_line))]
 pub fn put_row_line(out: &mut [u8], at: usize, layout: Layout, n: u32, row: Row) -> usize
     requires { (Sized layout) × (at + line_most layout ≤ length out.old) }
     ensures put { Put out.old at (row_line layout n row) out.new result }
@@ -142,6 +138,7 @@ pub fn put_row_line(out: &mut [u8], at: usize, layout: Layout, n: u32, row: Row)
 }
 
 // The line of a refusal, after what it speaks of.
+#[tactic(auto, unfolding(crate::specs::Lines::refusal_line))]
 pub fn put_refusal_line(out: &mut [u8], what: &[u8], refusal: Refusal) -> usize
     requires { (length what.now ≤ 8) × (64 ≤ length out.old) }
     ensures { Put out.old 0 (refusal_line what.now refusal) out.new result }

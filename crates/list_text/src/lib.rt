@@ -13,7 +13,7 @@ ghost use Rattle.pieces.specs.Inner.{Put};
 ghost use Rattle.list_lines.specs.Inner.{line_most};
 ghost use Rattle.list_text.specs.Listing.{rows_text, data_listing, listing, listed_to};
 
-use model::{Answer, Layout};
+use model::Layout;
 
 // Room for the text of any two files.
 pub const ROOM: usize = 1048640;
@@ -37,11 +37,9 @@ fn put_rows(out: &mut [u8], n: usize, layout: Layout, dat: &[u8]) -> usize
     ensures { Put out.old n (rows_text layout dat.now layout.rows) out.new result }
 {
     let rows = layout.rows;
-    let mut i: u32 = 0;
     let mut at = 0;
     let mut to = n;
-    while i < rows {
-        i += 1;
+    for i in 1..=rows {
         to = put_row_here(out, to, layout, i, &dat[at..]);
         at += rows::taken_here(layout, &dat[at..]);
     }
@@ -56,13 +54,12 @@ fn put_data_listing(out: &mut [u8], layout: Layout, dat: &[u8]) -> usize
     if LARGEST < dat.len() {
         return pieces::put_all(out, 0, b"no dat size\n");
     }
-    let answer = data::check(layout, dat);
-    match answer {
-        Answer::Yes => {
+    match data::check(layout, dat) {
+        Ok(()) => {
             let n = list_lines::put_head_line(out, layout);
             put_rows(out, n, layout, dat)
         }
-        Answer::No(refusal) => list_lines::put_refusal_line(out, b"no dat ", refusal),
+        Err(refusal) => list_lines::put_refusal_line(out, b"no dat ", refusal),
     }
 }
 
@@ -70,11 +67,8 @@ fn put_data_listing(out: &mut [u8], layout: Layout, dat: &[u8]) -> usize
 pub fn put_listing(cfg: &[u8], dat: &[u8], out: &mut [u8; ROOM]) -> usize
     ensures { (result ≡ length (listing cfg.now dat.now)) × (out.new ≡ listed_to cfg.now dat.now out.old) × (result ≤ length out.new) }
 {
-    let found = config::read_config(cfg);
-    let answer = found.answer;
-    let layout = found.config.layout;
-    match answer {
-        Answer::Yes => put_data_listing(out, layout, dat),
-        Answer::No(refusal) => list_lines::put_refusal_line(out, b"no cfg ", refusal),
+    match config::read_config(cfg) {
+        Ok(config) => put_data_listing(out, config.layout, dat),
+        Err(refusal) => list_lines::put_refusal_line(out, b"no cfg ", refusal),
     }
 }

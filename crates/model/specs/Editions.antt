@@ -4,8 +4,7 @@ use Rattle.model.specs.declared.Kind.{Kind}
 use Rattle.model.specs.declared.Kind.TheVariants.{Ascii, Binary, Binary32}
 use Rattle.model.specs.declared.Edition.{Edition}
 use Rattle.model.specs.declared.Edition.TheVariants.{Y2013, Y1999}
-use Rattle.model.specs.declared.EditionNo.{EditionNo}
-use Rattle.model.specs.declared.EditionNo.TheVariants.{Is, None}
+use Rattle.std.specs.Prelude.{None, Option, Some}
 
 -- the year of an edition
 abbrev pub year_of : Edition → ℕ
@@ -13,8 +12,8 @@ year_of Y2013 = 2013
 year_of Y1999 = 1999
 
 -- the edition of a year
-unfoldable pub edition_of : ℕ → EditionNo
-edition_of y = if eqb y 2013 then Is Y2013 else if eqb y 1999 then Is Y1999 else None
+unfoldable pub edition_of : ℕ → Option Edition
+edition_of y = if eqb y 2013 then Some Y2013 else if eqb y 1999 then Some Y1999 else None
 
 -- the kinds that an edition has: ASCII and binary in 1999
 unfoldable pub has_kind : Edition → Kind → Bool

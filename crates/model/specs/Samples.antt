@@ -7,8 +7,7 @@ use Rattle.model.specs.declared.Kind.TheVariants.{Ascii, Binary, Binary32}
 use Rattle.model.specs.declared.Edition.{Edition}
 use Rattle.model.specs.declared.Edition.TheVariants.{Y2013, Y1999}
 use Rattle.model.specs.declared.Layout.{Layout}
-use Rattle.model.specs.declared.Sample.{Sample}
-use Rattle.model.specs.declared.Sample.TheVariants.{Is, Missing}
+use Rattle.std.specs.Prelude.{None, Option, Some}
 use Rattle.model.specs.Kinds.{lowest_of, highest_of}
 
 -- the place of a missing sample: the lowest number of 32 bits, which is no sample of any kind
@@ -28,8 +27,8 @@ unfoldable pub is_none : ℤ → Bool
 is_none z = is_lowest 9223372036854775807 z
 
 -- what a place says
-unfoldable pub sample_of : ℤ → Sample
-sample_of z = if is_missing z then Missing else Is z
+unfoldable pub sample_of : ℤ → Option ℤ
+sample_of z = if is_missing z then None else Some z
 
 -- a number that is a sample of the layout: not outside the range of its kind and edition
 unfoldable pub holds : Layout → ℤ → Bool

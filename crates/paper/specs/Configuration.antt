@@ -6,16 +6,11 @@ use Rattle.ground.specs.Quoted.{quoted}
 use Rattle.clock.specs.declared.Date.{Date}
 use Rattle.clock.specs.declared.Span.{Span}
 use Rattle.clock.specs.declared.Moment.{Moment}
-use Rattle.clock.specs.declared.Stamp.{Stamp}
-use Rattle.clock.specs.declared.Stamp.TheVariants as stamp
-use Rattle.clock.specs.declared.Pretrigger.{Pretrigger}
-use Rattle.clock.specs.declared.Pretrigger.TheVariants.{Is, Unknown}
-use Rattle.reals.specs.declared.Real.{Real}
+use Rattle.std.specs.Prelude.{None, Option, Some}
+use Rattle.reals.specs.declared.Sign.{Sign}
 use Rattle.model.specs.declared.Edition.{Edition}
 use Rattle.model.specs.declared.Edition.TheVariants.{Y2013, Y1999}
 use Rattle.config_rules.specs.declared.LastLines.{LastLines}
-use Rattle.config_rules.specs.declared.Last.{Last}
-use Rattle.config_rules.specs.declared.Last.TheVariants as end_lines
 use Rattle.config_rules.specs.declared.Config.{Config}
 use Rattle.paper.specs.Fields.{month_lengths}
 use Rattle.paper.specs.Lines.{Line, ended, StationLine, ChannelsLine, AnalogLine, StatusLine, FrequencyLine, RatesLine}
@@ -27,7 +22,7 @@ Lines P i zero t = t ≡ []
 Lines P i (suc m) t = (l : List ℕ) × (u : List ℕ) × (t ≡ ended l ++ u) × Line (P i) l × Lines P (i + 1) m u
 
 -- t is the lines of rates with these last rows, each above the one before
-abbrev pub RateLines : Real → ℕ → List ℕ → List ℕ → Type 0
+abbrev pub RateLines : Sign → ℕ → List ℕ → List ℕ → Type 0
 RateLines sign before [] t = t ≡ []
 RateLines sign before (last ∷ lasts) t = (l : List ℕ) × (u : List ℕ) × (t ≡ ended l ++ u) × Line (RateLine sign before last) l × RateLines sign last lasts u
 
@@ -55,17 +50,17 @@ pub record PreTrigger (first trigger : Moment) (p : Span) : Type 0 where
   pub below : p.nanoseconds < 1000000000
 
 -- the time between first sample and trigger; unknown where either has no date
-abbrev pub Between : Stamp → Stamp → Pretrigger → Type 0
-Between (stamp.At a) (stamp.At b) p = (d : Span) × (p ≡ Is d) × PreTrigger a b d
-Between (stamp.At a) stamp.None p = p ≡ Unknown
-Between stamp.None b p = p ≡ Unknown
+abbrev pub Between : Option Moment → Option Moment → Option Span → Type 0
+Between (Some a) (Some b) p = (d : Span) × (p ≡ Some d) × PreTrigger a b d
+Between (Some a) None p = p ≡ None
+Between None b p = p ≡ None
 
 -- what follows the time multiplier's bytes, before the file's end: nothing in 1999; in 2013 its CR LF, time code and local code with theirs, time quality and leap second code
-abbrev pub EndLines : Edition → Last → List ℕ → Type 0
-EndLines Y1999 v t = (v ≡ end_lines.Absent) × (t ≡ [])
+abbrev pub EndLines : Edition → Option LastLines → List ℕ → Type 0
+EndLines Y1999 v t = (v ≡ None) × (t ≡ [])
 EndLines Y2013 v t =
     (e : LastLines) × (l10 : List ℕ) × (l11 : List ℕ)
-    × (v ≡ end_lines.Lines e)
+    × (v ≡ Some e)
     × Line (CodesLine e.code e.local e.x) l10
     × Line (QualityLine e.quality e.leap) l11
     × (t ≡ quoted "\r\n" ++ (ended l10 ++ l11))

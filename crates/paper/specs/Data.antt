@@ -8,8 +8,7 @@ use Rattle.model.specs.declared.Edition.{Edition}
 use Rattle.model.specs.declared.Edition.TheVariants.{Y2013, Y1999}
 use Rattle.model.specs.declared.Layout.{Layout}
 use Rattle.model.specs.declared.Row.{Row}
-use Rattle.model.specs.declared.Sample.{Sample}
-use Rattle.model.specs.declared.Sample.TheVariants.{Is, Missing, No}
+use Rattle.std.specs.Prelude.{None, Option, Some}
 use Rattle.model.specs.Kinds.{width_of, lowest_of, highest_of}
 use Rattle.model.specs.Editions.{has_kind}
 use Rattle.model.specs.Layouts.{Sized}
@@ -24,7 +23,7 @@ pub record InRange (l : Layout) (z : ℤ) : Type 0 where
   pub high : z ≤ℤ highest_of l.kind l.edition
 
 -- what a row says of its analog channel i, counted from 0: a sample, or that it is missing
-abbrev pub row_sample : Row → ℕ → Sample
+abbrev pub row_sample : Row → ℕ → Option ℤ
 row_sample r i = sample_of (get_or r.samples i (pos 0))
 
 -- status i of a row, counted from 0
@@ -38,10 +37,9 @@ MissingText Y2013 f = f ≡ []
 MissingText Y1999 f = WholeField (pos 99999) f
 
 -- a sample in text: a whole number of 1 to 13 characters within the range; or the text of a missing one
-abbrev pub SampleField : Layout → Sample → List ℕ → Type 0
-SampleField l (Is z) f = WholeField z f × InRange l z
-SampleField l Missing f = MissingText l.edition f
-SampleField l (No r) f = ⊥
+abbrev pub SampleField : Layout → Option ℤ → List ℕ → Type 0
+SampleField l (Some z) f = WholeField z f × InRange l z
+SampleField l None f = MissingText l.edition f
 
 -- the line of row n, which is r: number, timestamp, A samples, D statuses; r is zero past them
 pub record TextLine (l : Layout) (n : ℕ) (r : Row) (line : List ℕ) : Type 0 where
@@ -78,10 +76,9 @@ abbrev pub TwosComplement : ℕ → ℕ → ℤ → Type 0
 TwosComplement w v z = ((pos v ≡ z) × (v < 256 ^ w / 2)) ⊎ ((pos v ≡ z +ℤ pos (256 ^ w)) × (256 ^ w / 2 ≤ v))
 
 -- v, of w bytes, is a sample: in two's complement; the lowest pattern, 8000 or 80000000 hex, is a missing one and nothing else
-abbrev pub SampleWord : ℕ → ℕ → Sample → Type 0
-SampleWord w v (Is z) = (v ≡ 256 ^ w / 2 → ⊥) × TwosComplement w v z
-SampleWord w v Missing = v ≡ 256 ^ w / 2
-SampleWord w v (No r) = ⊥
+abbrev pub SampleWord : ℕ → ℕ → Option ℤ → Type 0
+SampleWord w v (Some z) = (v ≡ 256 ^ w / 2 → ⊥) × TwosComplement w v z
+SampleWord w v None = v ≡ 256 ^ w / 2
 
 -- how many words hold the statuses: D / 16 rounded up
 abbrev pub word_count : Layout → ℕ

@@ -6,8 +6,8 @@ use Rattle.ground.specs.Quoted.{quoted}
 use Rattle.ground.specs.Tables.{every}
 use Rattle.clock.specs.declared.Date.{Date}
 use Rattle.clock.specs.declared.Time.{Time}
-use Rattle.reals.specs.declared.Real.{Real}
-use Rattle.reals.specs.declared.Real.TheVariants as real
+use Rattle.reals.specs.declared.Sign as real
+use Rattle.reals.specs.declared.Sign.TheVariants.{Above, Below, Zero}
 use Rattle.model.specs.declared.Kind.{Kind}
 use Rattle.model.specs.declared.Kind.TheVariants.{Ascii, Binary, Binary32}
 
@@ -132,14 +132,14 @@ pub record Decimal (l : List ℕ) : Type 0 where
   pub exponents : FineExponent exponent
 
 -- whether a number of that sign and size is below zero, zero or above zero
-abbrev pub real_of : Sign → ℕ → Real
-real_of sign zero = real.Zero
-real_of none (suc v) = real.Above
-real_of plus (suc v) = real.Above
-real_of minus (suc v) = real.Below
+abbrev pub real_of : Sign → ℕ → real.Sign
+real_of sign zero = Zero
+real_of none (suc v) = Above
+real_of plus (suc v) = Above
+real_of minus (suc v) = Below
 
 -- a real: leading spaces, an optional sign and then that, at most 32 characters in all; it is r of zero, by its digits, whatever its exponent
-pub record RealField (r : Real) (f : List ℕ) : Type 0 where
+pub record RealField (r : real.Sign) (f : List ℕ) : Type 0 where
   pub leading : ℕ
   pub sign : Sign
   pub size : List ℕ
@@ -150,7 +150,7 @@ pub record RealField (r : Real) (f : List ℕ) : Type 0 where
 
 -- a real, whatever its sign
 abbrev pub AnyReal : List ℕ → Type 0
-AnyReal f = (r : Real) × RealField r f
+AnyReal f = (r : real.Sign) × RealField r f
 
 -- e is the number of an exponent, 1100 up
 abbrev pub RaisedTo : ℕ → Exponent → Type 0

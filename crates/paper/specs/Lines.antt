@@ -2,15 +2,14 @@
 use Rattle.std.specs.Prelude.{◌≡◌, ◌⊎◌, Bool, true, false, not, List, [], ◌++◌, ℕ, zero, suc, ◌+◌, ◌-◌, ◌≤◌, ◌<◌, eqb, ℤ, pos}
 use Rattle.ground.specs.Quoted.{quoted}
 use Rattle.ground.specs.Tables.{cat, every}
-use Rattle.reals.specs.declared.Real.{Real}
-use Rattle.reals.specs.declared.Real.TheVariants as real
+use Rattle.std.specs.Prelude.{None, Option, Some}
+use Rattle.reals.specs.declared.Sign.{Sign}
+use Rattle.reals.specs.declared.Sign.TheVariants.{Above, Zero}
 use Rattle.model.specs.declared.Kind.{Kind}
 use Rattle.model.specs.declared.Kind.TheVariants.{Binary32}
 use Rattle.model.specs.declared.Edition.{Edition}
 use Rattle.model.specs.declared.Edition.TheVariants.{Y2013, Y1999}
 use Rattle.clock.specs.declared.Moment.{Moment}
-use Rattle.clock.specs.declared.Stamp.{Stamp}
-use Rattle.clock.specs.declared.Stamp.TheVariants as stamp
 use Rattle.paper.specs.Fields.{TextField, is_between, CountField, CountIn, Lettered, RealField, AnyReal, Limits, DateText, TimeText, zeros, KindWord, CodeField, XField, QualityField, LeapField}
 
 -- a line: bytes 32 to 126, and it is P
@@ -89,12 +88,12 @@ pub record RatesLine (n : ℕ) (l : List ℕ) : Type 0 where
   pub rates : CountIn 3 0 8 n (f 1)
 
 -- what each rate must be: zero where there are no rates, else above zero
-abbrev pub rate_sign : ℕ → Real
-rate_sign zero = real.Zero
-rate_sign (suc n) = real.Above
+abbrev pub rate_sign : ℕ → Sign
+rate_sign zero = Zero
+rate_sign (suc n) = Above
 
 -- a rate and its last row, 1 to 1,000,000 and above the one before
-pub record RateLine (sign : Real) (before last : ℕ) (l : List ℕ) : Type 0 where
+pub record RateLine (sign : Sign) (before last : ℕ) (l : List ℕ) : Type 0 where
   pub f : ℕ → List ℕ
   pub fields : Fields 2 f l
   pub rate : RealField sign (f 1)
@@ -116,9 +115,9 @@ pub record ZeroLine (l : List ℕ) : Type 0 where
   pub line : l ≡ quoted "00/00/0000,00:00:00." ++ zeros places
 
 -- a date and a time, or no date
-abbrev pub StampLine : Stamp → List ℕ → Type 0
-StampLine (stamp.At m) l = DateLine m l
-StampLine stamp.None l = ZeroLine l
+abbrev pub StampLine : Option Moment → List ℕ → Type 0
+StampLine (Some m) l = DateLine m l
+StampLine None l = ZeroLine l
 
 -- 8: the kind; binary32 is none of 1999
 pub record KindLine (e : Edition) (k : Kind) (l : List ℕ) : Type 0 where
@@ -131,7 +130,7 @@ pub record KindLine (e : Edition) (k : Kind) (l : List ℕ) : Type 0 where
 pub record MultiplierLine (l : List ℕ) : Type 0 where
   pub f : ℕ → List ℕ
   pub fields : Fields 1 f l
-  pub multiplier : RealField real.Above (f 1)
+  pub multiplier : RealField Above (f 1)
 
 -- a local code: minutes; or x, and zero beside it
 abbrev pub LocalField : ℤ → Bool → List ℕ → Type 0

@@ -3,7 +3,8 @@ use Rattle.std.specs.Prelude.{◌≡◌, ◌⊎◌, Bool, List, [], ◌++◌, �
 use Rattle.model.specs.declared.Kind.{Kind}
 use Rattle.model.specs.declared.Edition.{Edition}
 use Rattle.model.specs.declared.Edition.TheVariants.{Y2013, Y1999}
-use Rattle.clock.specs.declared.Stamp.{Stamp}
+use Rattle.std.specs.Prelude.{Option}
+use Rattle.clock.specs.declared.Moment.{Moment}
 use Rattle.paper.specs.Lines.{Line, ended, StationLine, ChannelsLine, AnalogLine, StatusLine, FrequencyLine, RatesLine}
 use Rattle.paper.specs.Lines.{rate_sign, RateLine, StampLine, KindLine, MultiplierLine, CodesLine, QualityLine}
 
@@ -57,8 +58,8 @@ Right (status e i m) l y = Line (StatusLine i) l × (y ≡ status_due e (i + 1) 
 Right (frequency e) l y = Line FrequencyLine l × (y ≡ rates e)
 Right (rates e) l y = (n : ℕ) × Line (RatesLine n) l × (y ≡ rate_due e n (max 1 n) 0)
 Right (rate e n m before) l y = (last : ℕ) × Line (RateLine (rate_sign n) before last) l × (y ≡ rate_due e n m last)
-Right (first e) l y = (s : Stamp) × Line (StampLine s) l × (y ≡ trigger e)
-Right (trigger e) l y = (s : Stamp) × Line (StampLine s) l × (y ≡ kind e)
+Right (first e) l y = (s : Option Moment) × Line (StampLine s) l × (y ≡ trigger e)
+Right (trigger e) l y = (s : Option Moment) × Line (StampLine s) l × (y ≡ kind e)
 Right (kind e) l y = (k : Kind) × Line (KindLine e k) l × (y ≡ multiplier e)
 Right (multiplier e) l y = Line MultiplierLine l × (y ≡ end_due e)
 Right codes l y = (z : ℤ) × (w : ℤ) × (x : Bool) × Line (CodesLine z w x) l × (y ≡ quality)

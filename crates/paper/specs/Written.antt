@@ -8,8 +8,7 @@ use Rattle.model.specs.declared.Edition.{Edition}
 use Rattle.model.specs.declared.Edition.TheVariants.{Y2013, Y1999}
 use Rattle.model.specs.declared.Layout.{Layout}
 use Rattle.model.specs.declared.Row.{Row}
-use Rattle.model.specs.declared.Sample.{Sample}
-use Rattle.model.specs.declared.Sample.TheVariants.{Is, Missing, No}
+use Rattle.std.specs.Prelude.{None, Option, Some}
 use Rattle.model.specs.Kinds.{lowest_of, highest_of}
 use Rattle.model.specs.Layouts.{in_kind}
 use Rattle.model.specs.Rows.{latest_time}
@@ -19,10 +18,9 @@ use Rattle.paper.specs.Data.{InRange, row_sample, TextEnding, TextFile, row_size
 
 -- WRITTEN ROWS
 -- a sample that fits a layout: it is in the range, or missing
-abbrev pub FitsIn : Layout → Sample → Type 0
-FitsIn l (Is z) = InRange l z
-FitsIn l Missing = Unit {0}
-FitsIn l (No r) = ⊥
+abbrev pub FitsIn : Layout → Option ℤ → Type 0
+FitsIn l (Some z) = InRange l z
+FitsIn l None = Unit {0}
 
 -- a row that fits a layout: its timestamp has 32 bits, and each of its A samples fits
 pub record Fitting (l : Layout) (r : Row) : Type 0 where
@@ -93,7 +91,7 @@ pub record FirstOutside (l : Layout) (k : Kind) (r : ℕ → Row) (i j : ℕ) : 
   pub row : i < l.rows
   pub sample : j < l.analogs
   pub number : ℤ
-  pub there : row_sample (r i) j ≡ Is number
+  pub there : row_sample (r i) j ≡ Some number
   pub outside : (number <ℤ lowest_of k l.edition) ⊎ (highest_of k l.edition <ℤ number)
   pub rows_before : (p q : ℕ) → p < i → q < l.analogs → FitsIn (in_kind k l) (row_sample (r p) q)
   pub samples_before : (q : ℕ) → q < j → FitsIn (in_kind k l) (row_sample (r i) q)

@@ -18,8 +18,7 @@ use Rattle.ground.specs.Tables.{part}
 use Rattle.ground.proofs.Cases.{on_test}
 use Rattle.ground.proofs.Every.{and_split, and-join}
 use Rattle.ground.proofs.Parts.{length-part-le}
-use Rattle.numerals.specs.declared.Count.{Count}
-use Rattle.numerals.specs.declared.Count.TheVariants.{Is, Form}
+use Rattle.std.proofs.Common.{None, Option, Some}
 use Rattle.numerals.specs.Counts.{number_of, count_in}
 use Rattle.numerals.specs.Inner.{Below}
 use Rattle.numerals.proofs.CountLaws.{number-below}
@@ -35,9 +34,9 @@ fits-length (q ∷ p) (b ∷ l) e = ap suc (fits-length p l (and_split (fits_cha
 pub fits-apart : (p l : List ℕ) → (length p ≡ length l → ⊥) → fits_pattern p l ≡ false
 fits-apart p l h = on_test (fits_pattern p l) (λ e. absurd (h (omega (arith, fits-length p l e)))) (λ e. e)
 
-value-below : (n : ℕ) (k : Count) → 0 < n → Below n k → count_in k < n
-value-below n (Is v) h b = b
-value-below n Form h b = h
+value-below : (n : ℕ) (k : Option ℕ) → 0 < n → Below n k → count_in k < n
+value-below n (Some v) h b = b
+value-below n None h b = h
 
 pub digits_lt : (f t k : ℕ) (l : List ℕ) → t ≤ f + k → digits_at f t l < 10 ^ k
 unfolding digits_at

@@ -5,9 +5,8 @@
 ghost use Rattle.std.specs.Prelude.{◌≡◌, ◌+◌, ◌≤◌, length};
 ghost use Rattle.patterns.specs.Patterns.{fits_character, fits_pattern, digits_at, between};
 
-use numerals::Count;
-
 // Whether a character fits one of a pattern: d stands for a digit, any other for itself.
+#[tactic(auto, unfolding(crate::specs::Patterns::fits_character))]
 fn fits_character(p: u8, b: u8) -> bool
     ensures { result ≡ fits_character p b }
 {
@@ -21,17 +20,7 @@ fn fits_character(p: u8, b: u8) -> bool
 pub fn fits_pattern(pattern: &[u8], s: &[u8]) -> bool
     ensures { result ≡ fits_pattern pattern.now s.now }
 {
-    if pattern.len() != s.len() {
-        return false;
-    }
-    let mut i = 0;
-    while i < s.len() {
-        if !fits_character(pattern[i], s[i]) {
-            return false;
-        }
-        i += 1;
-    }
-    true
+    pattern.len() == s.len() && pattern.iter().zip(s).all(|(p, b)| fits_character(*p, *b))
 }
 
 // The value of the digits from a place on and before another.
@@ -41,12 +30,13 @@ pub fn digits_at(s: &[u8], from: usize, to: usize) -> u32
 {
     let count = numerals::number_of(&s[from..to]);
     match count {
-        Count::Is(v) => v as u32,
-        Count::Form => 0,
+        Some(v) => v as u32,
+        None => 0,
     }
 }
 
 // Whether the number is least to most.
+#[tactic(auto, unfolding(crate::specs::Patterns::between))]
 pub fn between(least: u32, most: u32, n: u32) -> bool
     ensures { result ≡ between least most n }
 {

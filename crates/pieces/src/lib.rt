@@ -13,13 +13,8 @@ pub fn put_all(out: &mut [u8], n: usize, s: &[u8]) -> usize
     requires { n + length s.now ≤ length out.old }
     ensures { Put out.old n s.now out.new result }
 {
-    let mut i = 0;
-    let mut to = n;
-    while i < s.len() {
-        out[to] = s[i];
-        to += 1;
-        i += 1;
-    }
+    let to = n + s.len();
+    out[n..to].copy_from_slice(s);
     to
 }
 

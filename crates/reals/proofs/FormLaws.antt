@@ -11,8 +11,7 @@ use native.Mathlib.Omega.{arith}
 use lib.Dec.{ltb, eqb}
 use lib.ListN.{length, drop, length-drop}
 use Rattle.ground.proofs.Cases.{on_test, clash}
-use Rattle.numerals.specs.declared.Count.{Count}
-use Rattle.numerals.specs.declared.Count.TheVariants.{Is, Form}
+use Rattle.std.proofs.Common.{None, Option, Some}
 use Rattle.numerals.specs.Counts.{length_in, is_digit}
 use Rattle.numerals.specs.Inner.{Below}
 use Rattle.numerals.specs.Wholes.{sign_length, has_minus}
@@ -42,23 +41,23 @@ unfolding short_number
 short-below l =
     on_test (length_in 1 3 l) (λ e. rw e (number-below 3 l (length-bounds 1 3 l e).1)) (λ e. rw e tt)
 
-raised-bounds : (minus : Bool) (k : Count) (e : ℕ) → Below (10 ^ 3) k → raised_by minus k ≡ Is e → (101 ≤ e) × (e ≤ 2099)
+raised-bounds : (minus : Bool) (k : Option ℕ) (e : ℕ) → Below (10 ^ 3) k → raised_by minus k ≡ Some e → (101 ≤ e) × (e ≤ 2099)
 unfolding raised_by
-raised-bounds true (Is v) e h q = let z : 1100 - v ≡ e = cc in (omega arith, omega arith)
-raised-bounds false (Is v) e h q = let z : 1100 + v ≡ e = cc in (omega arith, omega arith)
-raised-bounds minus Form e h q = clash (cc)
+raised-bounds true (Some v) e h q = let z : 1100 - v ≡ e = cc in (omega arith, omega arith)
+raised-bounds false (Some v) e h q = let z : 1100 + v ≡ e = cc in (omega arith, omega arith)
+raised-bounds minus None e h q = clash (cc)
 
-exponent-bounds : (l : List ℕ) (e : ℕ) → exponent_of l ≡ Is e → (101 ≤ e) × (e ≤ 2099)
+exponent-bounds : (l : List ℕ) (e : ℕ) → exponent_of l ≡ Some e → (101 ≤ e) × (e ≤ 2099)
 unfolding exponent_of signed_exponent
 exponent-bounds [] e q = let z : 1100 ≡ e = cc in (omega arith, omega arith)
 exponent-bounds (b ∷ l) e q =
     on_test (is_e b)
     (λ t. raised-bounds (has_minus l) (short_number (drop (sign_length l) l)) e (short-below (drop (sign_length l) l)) (rw t at q))
-    (λ t. let x : Form ≡ Is e = rw t at q in clash (cc))
+    (λ t. let x : None ≡ Some e = rw t at q in clash (cc))
 
-pub form-bounds : (l : List ℕ) (e : ℕ) → real_form l ≡ Is e → (101 ≤ e) × (e ≤ 2099)
+pub form-bounds : (l : List ℕ) (e : ℕ) → real_form l ≡ Some e → (101 ≤ e) × (e ≤ 2099)
 unfolding real_form
 form-bounds l e q =
     on_test (eqb (mantissa_length l) 0)
-    (λ t. let x : Form ≡ Is e = rw t at q in clash (cc))
+    (λ t. let x : None ≡ Some e = rw t at q in clash (cc))
     (λ t. exponent-bounds (drop (mantissa_length l) l) e (rw t at q))

@@ -11,14 +11,13 @@ use Prim.Native.Nat.{ℕ, ◌+◌, ◌-◌, ◌*◌, ◌^◌, ◌≤◌, ◌<◌
 use native.Mathlib.Omega.{arith}
 use lib.ListN.{length, take, drop, length-take, length-drop}
 use Rattle.ground.proofs.Cases.{on_test, clash}
-use Rattle.numerals.specs.declared.Count.{Count}
-use Rattle.numerals.specs.declared.Count.TheVariants as count
+use Rattle.std.proofs.Common.{Err, None, Ok, Option, Some}
+use Rattle.numerals.specs.declared.FieldError.TheVariants.{Form, Range}
 use Rattle.numerals.specs.Counts.{length_in, is_digit, leading_spaces}
 use Rattle.numerals.specs.Wholes.{sign_length, has_minus}
 use Rattle.numerals.proofs.Tens.{more, cap}
 use Rattle.numerals.proofs.CountLaws.{digit-bounds, length-bounds}
 use Rattle.reals.specs.declared.Exact.{Exact}
-use Rattle.reals.specs.declared.Limit.TheVariants.{Is, Form, Range}
 use Rattle.reals.specs.Forms.{leading_digits, mantissa_length, real_form}
 use Rattle.reals.specs.Exact.{digits_of, decimal_places, exact_of, within_bound, in_bound, limit_from, limit_of, signed_limit, read_limit}
 use Rattle.reals.specs.Inner.{Sound}
@@ -46,15 +45,15 @@ exact-sound minus e l h k = record {
   near = omega arith;
 }
 
-from-sound : (minus : Bool) (l : List ℕ) (k : Count) (x : Exact) → length l ≤ 13 → real_form l ≡ k → limit_from minus l k ≡ Is x → Sound x
+from-sound : (minus : Bool) (l : List ℕ) (k : Option ℕ) (x : Exact) → length l ≤ 13 → real_form l ≡ k → limit_from minus l k ≡ Ok x → Sound x
 unfolding in_bound
-from-sound minus l (count.Is e) x h f q =
+from-sound minus l (Some e) x h f q =
     on_test (within_bound (exact_of minus e l))
-    (λ t. let r : Is (exact_of minus e l) ≡ Is x = rw t at q in let s : exact_of minus e l ≡ x = cc in rw (← s) (exact-sound minus e l h (form-bounds l e f).1))
-    (λ t. let r : Range ≡ Is x = rw t at q in clash (cc))
-from-sound minus l count.Form x h f q = clash (cc)
+    (λ t. let r : Ok (exact_of minus e l) ≡ Ok x = rw t at q in let s : exact_of minus e l ≡ x = cc in rw (← s) (exact-sound minus e l h (form-bounds l e f).1))
+    (λ t. let r : Err Range ≡ Ok x = rw t at q in clash (cc))
+from-sound minus l None x h f q = clash (cc)
 
-pub limit-sound : (l : List ℕ) (x : Exact) → read_limit l ≡ Is x → Sound x
+pub limit-sound : (l : List ℕ) (x : Exact) → read_limit l ≡ Ok x → Sound x
 unfolding read_limit signed_limit limit_of
 limit-sound l x q =
     on_test (length_in 1 13 l)
@@ -62,4 +61,4 @@ limit-sound l x q =
     let s = drop (leading_spaces l) l in
     let u = drop (sign_length s) s in
     from-sound (has_minus s) u (real_form u) x (simp length-drop (omega (arith, (length-bounds 1 13 l t).1))) refl (rw t at q))
-    (λ t. let r : Form ≡ Is x = rw t at q in clash (cc))
+    (λ t. let r : Err Form ≡ Ok x = rw t at q in clash (cc))

@@ -8,15 +8,14 @@ ghost use Rattle.reals.specs.Forms.{leading_digits, fraction_length, mantissa_le
 ghost use Rattle.reals.specs.Exact.{digits_of, decimal_places, exact_of, size_le, in_bound, limit_of, signed_limit, read_limit, max_below};
 ghost use Rattle.reals.specs.Inner.{Sound};
 
-use numerals::Count;
+use numerals::FieldError;
 
-// A real by its sign, or a wrong form.
+// The side of zero on which a real is.
 #[derive(Clone, Copy)]
-pub enum Real {
+pub enum Sign {
     Below,
     Zero,
     Above,
-    Form,
 }
 
 // The number digits * 10 ^ scale / 10 ^ 1100, with a minus in front where minus is true.
@@ -27,29 +26,17 @@ pub struct Exact {
     pub scale: u64,
 }
 
-// Min or max of a channel, a wrong form, or a number too far from zero.
-#[derive(Clone, Copy)]
-pub enum Limit {
-    Is(Exact),
-    Form,
-    Range,
-}
-
 // How many digits lead.
 fn leading_digits(s: &[u8]) -> usize
     ensures { result ≡ leading_digits s.now }
 {
-    let mut i = 0;
-    while i < s.len() {
-        if !numerals::is_digit(s[i]) {
-            return i;
-        }
-        i += 1;
-    }
-    i
+    s.iter()
+        .position(|b| !numerals::is_digit(*b))
+        .unwrap_or(s.len())
 }
 
 // How many characters a point and digits take.
+#[tactic(auto, unfolding(crate::specs::Forms::fraction_length))]
 fn fraction_length(s: &[u8]) -> usize
     ensures { result ≡ fraction_length s.now }
 {
@@ -67,6 +54,7 @@ fn fraction_length(s: &[u8]) -> usize
 }
 
 // How many characters a mantissa takes.
+#[tactic(auto, unfolding(crate::specs::Forms::mantissa_length))]
 fn mantissa_length(s: &[u8]) -> usize
     ensures { result ≡ mantissa_length s.now }
 {
@@ -78,6 +66,7 @@ fn mantissa_length(s: &[u8]) -> usize
 }
 
 // e or E.
+#[tactic(auto, unfolding(crate::specs::Forms::is_e))]
 fn is_e(b: u8) -> bool
     ensures { result ≡ is_e b }
 {
@@ -88,34 +77,33 @@ fn is_e(b: u8) -> bool
 }
 
 // 1 to 3 digits.
-fn short_number(s: &[u8]) -> Count
+#[tactic(auto, unfolding(crate::specs::Forms::short_number))]
+fn short_number(s: &[u8]) -> Option<u64>
     ensures { result ≡ short_number s.now }
 {
     if !numerals::length_in(s, 1, 3) {
-        return Count::Form;
+        return None;
     }
     numerals::number_of(s)
 }
 
 // An exponent of that size, 1100 up.
-fn raised_by(size: Count, minus: bool) -> Count
+#[tactic(auto, unfolding(crate::specs::Forms::raised_by))]
+fn raised_by(size: Option<u64>, minus: bool) -> Option<u64>
     requires { Below (10 ^ 3) size }
     ensures { result ≡ raised_by minus size }
 {
-    match size {
-        Count::Is(v) => {
-            if minus {
-                Count::Is(1100 - v)
-            } else {
-                Count::Is(1100 + v)
-            }
-        }
-        Count::Form => Count::Form,
+    let v = size?;
+    if minus {
+        Some(1100 - v)
+    } else {
+        Some(1100 + v)
     }
 }
 
 // An optional sign and 1 to 3 digits.
-fn signed_exponent(s: &[u8]) -> Count
+#[tactic(auto, unfolding(crate::specs::Forms::signed_exponent))]
+fn signed_exponent(s: &[u8]) -> Option<u64>
     ensures { result ≡ signed_exponent s.now }
 {
     let n = numerals::sign_length(s);
@@ -124,30 +112,33 @@ fn signed_exponent(s: &[u8]) -> Count
 }
 
 // An exponent, which may be absent.
-fn exponent_of(s: &[u8]) -> Count
+#[tactic(auto, unfolding(crate::specs::Forms::exponent_of))]
+fn exponent_of(s: &[u8]) -> Option<u64>
     ensures { result ≡ exponent_of s.now }
 {
     if s.len() == 0 {
-        return Count::Is(1100);
+        return Some(1100);
     }
     if !is_e(s[0]) {
-        return Count::Form;
+        return None;
     }
     signed_exponent(&s[1..])
 }
 
 // The form of a real after its spaces and sign: its exponent.
-fn real_form(s: &[u8]) -> Count
+#[tactic(auto, unfolding(crate::specs::Forms::real_form))]
+fn real_form(s: &[u8]) -> Option<u64>
     ensures { result ≡ real_form s.now }
 {
     let m = mantissa_length(s);
     if m == 0 {
-        return Count::Form;
+        return None;
     }
     exponent_of(&s[m..])
 }
 
 // 0 or the point.
+#[tactic(auto, unfolding(crate::specs::Forms::is_nought))]
 fn is_nought(b: u8) -> bool
     ensures { result ≡ is_nought b }
 {
@@ -161,44 +152,36 @@ fn is_nought(b: u8) -> bool
 fn is_zero(m: &[u8]) -> bool
     ensures { result ≡ is_zero m.now }
 {
-    let mut i = 0;
-    while i < m.len() {
-        if !is_nought(m[i]) {
-            return false;
-        }
-        i += 1;
-    }
-    true
+    m.iter().all(|b| is_nought(*b))
 }
 
 // Zero, below zero or above zero.
-fn sign_of(zero: bool, minus: bool) -> Real
+#[tactic(auto, unfolding(crate::specs::Forms::sign_of))]
+fn sign_of(zero: bool, minus: bool) -> Sign
     ensures { result ≡ sign_of zero minus }
 {
     if zero {
-        return Real::Zero;
+        return Sign::Zero;
     }
     if minus {
-        return Real::Below;
+        return Sign::Below;
     }
-    Real::Above
+    Sign::Above
 }
 
 // A real after its spaces and sign.
-fn real_sign(minus: bool, s: &[u8]) -> Real
+#[tactic(auto, unfolding(crate::specs::Forms::real_sign))]
+fn real_sign(minus: bool, s: &[u8]) -> Option<Sign>
     ensures { result ≡ real_sign minus s.now }
 {
-    match real_form(s) {
-        Count::Is(_) => {
-            let m = mantissa_length(s);
-            sign_of(is_zero(&s[..m]), minus)
-        }
-        Count::Form => Real::Form,
-    }
+    let _ = real_form(s)?;
+    let m = mantissa_length(s);
+    Some(sign_of(is_zero(&s[..m]), minus))
 }
 
 // A real after its spaces.
-fn signed_real(s: &[u8]) -> Real
+#[tactic(auto, unfolding(crate::specs::Forms::signed_real))]
+fn signed_real(s: &[u8]) -> Option<Sign>
     ensures { result ≡ signed_real s.now }
 {
     let n = numerals::sign_length(s);
@@ -206,11 +189,12 @@ fn signed_real(s: &[u8]) -> Real
 }
 
 // A real in a field of `least` to `most` characters.
-pub fn read_real(field: &[u8], least: usize, most: usize) -> Real
+#[tactic(auto, unfolding(crate::specs::Forms::read_real))]
+pub fn read_real(field: &[u8], least: usize, most: usize) -> Option<Sign>
     ensures { result ≡ read_real least most field.now }
 {
     if !numerals::length_in(field, least, most) {
-        return Real::Form;
+        return None;
     }
     let n = numerals::leading_spaces(field);
     signed_real(&field[n..])
@@ -222,10 +206,8 @@ fn to_places(v: u64, k: u64) -> u64
     ensures { result ≡ v * 10 ^ k }
 {
     let mut w = v;
-    let mut i = k;
-    while 0 < i {
-        w = 10 * w;
-        i -= 1;
+    for _ in 0..k {
+        w *= 10;
     }
     w
 }
@@ -257,19 +239,17 @@ fn digits_of(m: &[u8]) -> u64
     requires { length m.now ≤ 13 }
     ensures { result ≡ digits_of 0 m.now }
 {
-    let mut v: u64 = 0;
-    let mut i = 0;
-    while i < m.len() {
-        let b = m[i];
-        i += 1;
-        if numerals::is_digit(b) {
-            v = 10 * v + numerals::wide(b - 48);
+    let mut v = 0;
+    for b in m {
+        if numerals::is_digit(*b) {
+            v = 10 * v + numerals::wide(*b - 48);
         }
     }
     v
 }
 
 // How many digits stand after the point.
+#[tactic(auto, unfolding(crate::specs::Exact::decimal_places))]
 fn decimal_places(s: &[u8]) -> usize
     ensures { result ≡ decimal_places s.now }
 {
@@ -282,6 +262,7 @@ fn decimal_places(s: &[u8]) -> usize
 }
 
 // The number of a real whose exponent is told.
+#[tactic(auto, unfolding(crate::specs::Exact::exact_of))]
 fn exact_of(minus: bool, e: u64, s: &[u8]) -> Exact
     requires { (length s.now ≤ 13) × (13 ≤ e) }
     ensures { result ≡ exact_of minus e s.now }
@@ -296,30 +277,31 @@ fn exact_of(minus: bool, e: u64, s: &[u8]) -> Exact
 }
 
 // A limit, where it is within the bound 3.4028235E38.
-fn in_bound(x: Exact) -> Limit
+#[tactic(auto, unfolding(crate::specs::Exact::in_bound, crate::specs::Exact::within_bound))]
+fn in_bound(x: Exact) -> Result<Exact, FieldError>
     requires { Sound x }
     ensures { result ≡ in_bound x }
 {
     if size_le(x.digits, x.scale, 34028235, 1131) {
-        Limit::Is(x)
+        Ok(x)
     } else {
-        Limit::Range
+        Err(FieldError::Range)
     }
 }
 
 // A limit after its spaces and sign.
-fn limit_of(minus: bool, s: &[u8]) -> Limit
+#[tactic(auto, unfolding(crate::specs::Exact::limit_of))]
+fn limit_of(minus: bool, s: &[u8]) -> Result<Exact, FieldError>
     requires { length s.now ≤ 13 }
     ensures { result ≡ limit_of minus s.now }
 {
-    match real_form(s) {
-        Count::Is(e) => in_bound(exact_of(minus, e, s)),
-        Count::Form => Limit::Form,
-    }
+    let e = real_form(s).ok_or(FieldError::Form)?;
+    in_bound(exact_of(minus, e, s))
 }
 
 // A limit after its spaces.
-fn signed_limit(s: &[u8]) -> Limit
+#[tactic(auto, unfolding(crate::specs::Exact::signed_limit))]
+fn signed_limit(s: &[u8]) -> Result<Exact, FieldError>
     requires { length s.now ≤ 13 }
     ensures { result ≡ signed_limit s.now }
 {
@@ -328,11 +310,12 @@ fn signed_limit(s: &[u8]) -> Limit
 }
 
 // Min or max of a channel.
-pub fn read_limit(field: &[u8]) -> Limit
+#[tactic(auto, unfolding(crate::specs::Exact::read_limit))]
+pub fn read_limit(field: &[u8]) -> Result<Exact, FieldError>
     ensures { result ≡ read_limit field.now }
 {
     if !numerals::length_in(field, 1, 13) {
-        return Limit::Form;
+        return Err(FieldError::Form);
     }
     let n = numerals::leading_spaces(field);
     signed_limit(&field[n..])

@@ -8,35 +8,25 @@ ghost use Rattle.model.specs.Refusals.{written_of, FewBytes};
 ghost use Rattle.reasons.specs.Reasons.{text_said, reason_said};
 ghost use Rattle.reasons.specs.Inner.{reason_text, reason_texts, reason_start};
 
-use model::Written;
-
-// The bytes fill the slice.
-fn copy(text: &[u8], d: &mut [u8])
-    requires { length d.old ≡ length text.now }
-    ensures { d.new ≡ text.now }
-{
-    let mut i = 0;
-    while i < d.len() {
-        d[i] = text[i];
-        i += 1;
-    }
-}
+use model::Refusal;
 
 // The text is written at the front of `out`, or nothing is.
-fn say_text(text: &[u8], out: &mut [u8]) -> Written
+#[tactic(auto, unfolding(crate::specs::Reasons::text_said))]
+fn say_text(text: &[u8], out: &mut [u8]) -> Result<usize, Refusal>
     requires { length text.now < 2 ^ 32 }
     ensures value { (result ≡ written_of (text_said text.now (length out.old))) × (FewBytes result) }
     ensures out_after { out.new ≡ over (text_said text.now (length out.old)) out.old }
 {
     let size = text.len();
     if out.len() < size {
-        return Written::No(model::refused(17, 0, 0));
+        return Err(model::refused(17, 0, 0));
     }
-    copy(text, &mut out[..size]);
-    Written::Bytes(size)
+    out[..size].copy_from_slice(text);
+    Ok(size)
 }
 
 // Where the text of number i + 1 begins in the table, and the text of number i ends.
+#[tactic(auto, unfolding(crate::specs::Inner::reason_start, crate::specs::Inner::reason_text, crate::specs::Reasons::reason_of))]
 fn reason_start(i: usize) -> usize
     requires { i ≤ 17 }
     ensures { result ≡ reason_start i }
@@ -48,7 +38,7 @@ fn reason_start(i: usize) -> usize
 }
 
 // Text i of the table, which has all texts one after the other, is written at the front of `out`, or nothing is.
-fn say_from(table: &[u8], i: usize, out: &mut [u8]) -> Written
+fn say_from(table: &[u8], i: usize, out: &mut [u8]) -> Result<usize, Refusal>
     requires { (table.now ≡ reason_texts) × (i < 17) }
     ensures value { (result ≡ written_of (text_said (reason_text i) (length out.old))) × (FewBytes result) }
     ensures out_after { out.new ≡ over (text_said (reason_text i) (length out.old)) out.old }
@@ -59,7 +49,8 @@ fn say_from(table: &[u8], i: usize, out: &mut [u8]) -> Written
 }
 
 // The meaning of a refusal's number is written at the front of `out`, or nothing is.
-pub fn put_reason(number: u32, out: &mut [u8]) -> Written
+#[tactic(auto, unfolding(crate::specs::Inner::reason_texts, crate::specs::Inner::reason_text, crate::specs::Reasons::reason_of))]
+pub fn put_reason(number: u32, out: &mut [u8]) -> Result<usize, Refusal>
     ensures value { (result ≡ written_of (reason_said number (length out.old))) × (FewBytes result) }
     ensures out_after { out.new ≡ over (reason_said number (length out.old)) out.old }
 {
@@ -85,6 +76,6 @@ pub fn put_reason(number: u32, out: &mut [u8]) -> Written
             number as usize - 1,
             out,
         ),
-        _ => Written::No(model::refused(10, 0, 0)),
+        _ => Err(model::refused(10, 0, 0)),
     }
 }

@@ -84,6 +84,7 @@ fn long_of(n: u32) -> u32
 }
 
 // A sample of 16 bits, in 32, fills the slice.
+#[tactic(auto, unfolding(crate::specs::Inner::recoded))]
 fn widen(b: &[u8], d: &mut [u8])
     requires { (length b.now ≡ width_of Binary) × (length d.old ≡ width_of Binary32) }
     ensures { d.new ≡ recoded Binary Binary32 b.now }
@@ -96,14 +97,12 @@ fn widen_all(a: usize, b: &[u8], d: &mut [u8])
     requires { (length b.now ≡ a * width_of Binary) × (length d.old ≡ a * width_of Binary32) }
     ensures { d.new ≡ recoded_all Binary Binary32 a b.now }
 {
-    let mut i = 0;
-    while i < a {
+    for i in 0..a {
         let from = i * NARROW;
         let to = from + NARROW;
         let at = i * WIDE;
         let end = at + WIDE;
         widen(&b[from..to], &mut d[at..end]);
-        i += 1;
     }
 }
 
@@ -116,6 +115,7 @@ fn short_of(n: u32) -> u32
 }
 
 // A sample of 32 bits that fits in 16 fills the slice.
+#[tactic(auto, unfolding(crate::specs::Inner::recoded))]
 fn narrow(b: &[u8], d: &mut [u8])
     requires { (length b.now ≡ width_of Binary32) × (length d.old ≡ width_of Binary) × (stray_of b.now ≡ 0) }
     ensures { d.new ≡ recoded Binary32 Binary b.now }
@@ -128,14 +128,12 @@ fn narrow_all(a: usize, b: &[u8], d: &mut [u8])
     requires { (length b.now ≡ a * width_of Binary32) × (length d.old ≡ a * width_of Binary) × (NoStray a b.now) }
     ensures { d.new ≡ recoded_all Binary32 Binary a b.now }
 {
-    let mut i = 0;
-    while i < a {
+    for i in 0..a {
         let from = i * WIDE;
         let to = from + WIDE;
         let at = i * NARROW;
         let end = at + NARROW;
         narrow(&b[from..to], &mut d[at..end]);
-        i += 1;
     }
 }
 
@@ -174,12 +172,10 @@ fn strays(a: usize, b: &[u8]) -> u32
     ensures { result ≡ strays_of b.now a }
 {
     let mut n: u32 = 0;
-    let mut i = 0;
-    while i < a {
+    for i in 0..a {
         let from = i * WIDE;
         let to = from + WIDE;
         n += stray(&b[from..to]);
-        i += 1;
     }
     n
 }
@@ -189,16 +185,14 @@ fn find_stray(a: usize, b: &[u8]) -> usize
     requires { (a ≤ 96) × (length b.now ≡ a * width_of Binary32) }
     ensures { result ≡ first_stray a b.now }
 {
-    let mut i = 0;
-    while i < a {
+    for i in 0..a {
         let from = i * WIDE;
         let to = from + WIDE;
         if stray(&b[from..to]) != 0 {
             return i;
         }
-        i += 1;
     }
-    i
+    a
 }
 
 // The same; they are none-strays first, since most rows have none.

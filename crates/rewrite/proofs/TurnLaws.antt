@@ -13,7 +13,7 @@ use Rattle.ground.specs.Tables.{part}
 use Rattle.ground.proofs.Walk.{here-any, done, rest}
 use Rattle.rewrite_lines.specs.declared.LineSort.{LineSort}
 use Rattle.rewrite_lines.specs.declared.LineSort.TheVariants.{Kept}
-use Rattle.rewrite_sorts.specs.declared.Cut.{Cut}
+use Rattle.text.specs.declared.Line.{Line}
 use Rattle.rewrite_sorts.specs.Cuts.{cut_line}
 use Rattle.rewrite.specs.Rewrite.{lines_text}
 
@@ -23,7 +23,7 @@ module _ (anew : LineSort → List ℕ → List ℕ) (all : List LineSort) (s : 
   unfolding lines_text
   lines-done h = rw (done all n h)
 
-  module _ (h : n < length all) (sort : LineSort) (cut : Cut) (its : sort ≡ get_or all n Kept) (found : cut ≡ cut_line (part at (length s) s)) where
+  module _ (h : n < length all) (sort : LineSort) (cut : Line) (its : sort ≡ get_or all n Kept) (found : cut ≡ cut_line (part at (length s) s)) where
     abbrev line : List ℕ
     line = anew sort (part at (at + cut.len) s)
 

@@ -1,13 +1,12 @@
 -- A configuration written again in a kind: the kind's word, numbers and codes without leading spaces, all else as it stands, CR LF on each line.
 use Rattle.std.specs.Prelude.{List, [], ◌∷◌, ◌++◌, ℕ, leb, length, take, drop}
-use Rattle.ground.specs.Said.{Said, says, ◌>>=◌, ◌>>◌, must}
+use Rattle.ground.specs.Said.{Said, says, ◌>>=◌, ◌>>◌, must, answer_said}
 use Rattle.model.specs.declared.Kind.{Kind}
 use Rattle.model.specs.declared.Refusal.{Refusal}
 use Rattle.model.specs.Editions.{has_kind}
 use Rattle.model.specs.Refusals.{refused}
 use Rattle.config_rules.specs.declared.Config.{Config}
 use Rattle.config.specs.Config.{read_config}
-use Rattle.config.specs.Said.{config_said}
 use Rattle.rewrite_lines.specs.declared.LineSort.{LineSort}
 use Rattle.rewrite_lines.specs.Lines.{line_text}
 use Rattle.rewrite_sorts.specs.Sorts.{sorts}
@@ -32,6 +31,6 @@ result_said new room = do
 -- the bytes that are written: the reader's refusals, then 10 for a kind that the edition lacks, then those of the result
 unfoldable pub rewrite_said : List ℕ → Kind → ℕ → Said Refusal (List ℕ)
 rewrite_said s k room = do
-  c ← config_said (read_config s)
+  c ← answer_said (read_config s)
   must (has_kind c.layout.edition k) (refused 10 0 0)
   result_said (rewritten c k s) room

@@ -11,7 +11,7 @@ ghost use Rattle.rewrite.specs.Rewrite.{rewritten, result_said, rewrite_said};
 ghost use Rattle.rewrite.specs.Inner.{in_edition};
 
 use config_rules::Config;
-use model::{Answer, Kind, Written};
+use model::{Kind, Refusal};
 use rewrite_lines::LineSort;
 
 // The most bytes of a configuration.
@@ -25,14 +25,12 @@ fn rewritten_length(config: Config, kind: Kind, cfg: &[u8]) -> usize
     let lines = rewrite_sorts::line_count(config);
     let mut size = 0;
     let mut at = 0;
-    let mut n = 0;
-    while n < lines {
+    for n in 0..lines {
         let cut = rewrite_sorts::cut_line(&cfg[at..]);
         let end = at + cut.len;
         size += 2
             + rewrite_lines::line_length(kind, rewrite_sorts::sort_of(config, n), &cfg[at..end]);
         at += cut.taken;
-        n += 1;
     }
     size
 }
@@ -54,8 +52,7 @@ fn put_rewritten(out: &mut [u8], config: Config, kind: Kind, cfg: &[u8]) -> usiz
     let lines = rewrite_sorts::line_count(config);
     let mut to = 0;
     let mut at = 0;
-    let mut n = 0;
-    while n < lines {
+    for n in 0..lines {
         let cut = rewrite_sorts::cut_line(&cfg[at..]);
         let end = at + cut.len;
         to = put_ended(
@@ -66,50 +63,46 @@ fn put_rewritten(out: &mut [u8], config: Config, kind: Kind, cfg: &[u8]) -> usiz
             &cfg[at..end],
         );
         at += cut.taken;
-        n += 1;
     }
     to
 }
 
 // A configuration that was accepted is written at the front of `out`, or nothing is.
-fn rewrite(config: Config, kind: Kind, cfg: &[u8], out: &mut [u8]) -> Written
+#[tactic(auto, unfolding(crate::specs::Rewrite::result_said))]
+fn rewrite(config: Config, kind: Kind, cfg: &[u8], out: &mut [u8]) -> Result<usize, Refusal>
     requires { length cfg.now ≤ 65536 }
     ensures value { (result ≡ written_of (result_said (rewritten config kind cfg.now) (length out.old))) × (FewBytes result) }
     ensures out_after { out.new ≡ over (result_said (rewritten config kind cfg.now) (length out.old)) out.old }
 {
     let size = rewritten_length(config, kind, cfg);
     if MOST < size {
-        return Written::No(model::refused(1, 0, 0));
+        return Err(model::refused(1, 0, 0));
     }
     if out.len() < size {
-        return Written::No(model::refused(17, 0, 0));
+        return Err(model::refused(17, 0, 0));
     }
-    Written::Bytes(put_rewritten(out, config, kind, cfg))
+    Ok(put_rewritten(out, config, kind, cfg))
 }
 
 // The same, where the edition has the kind.
-fn rewrite_in(config: Config, kind: Kind, cfg: &[u8], out: &mut [u8]) -> Written
+#[tactic(auto, unfolding(crate::specs::Inner::in_edition))]
+fn rewrite_in(config: Config, kind: Kind, cfg: &[u8], out: &mut [u8]) -> Result<usize, Refusal>
     requires { length cfg.now ≤ 65536 }
     ensures value { (result ≡ written_of (in_edition config kind cfg.now (length out.old))) × (FewBytes result) }
     ensures out_after { out.new ≡ over (in_edition config kind cfg.now (length out.old)) out.old }
 {
-    let layout = config.layout;
-    let edition = layout.edition;
-    if !edition.has(kind) {
-        return Written::No(model::refused(10, 0, 0));
+    if !config.layout.edition.has(kind) {
+        return Err(model::refused(10, 0, 0));
     }
     rewrite(config, kind, cfg, out)
 }
 
 // A configuration is written in a kind at the front of `out`, or nothing is.
-pub fn write_config(cfg: &[u8], kind: Kind, out: &mut [u8]) -> Written
+#[tactic(auto, unfolding(crate::specs::Rewrite::rewrite_said, crate::specs::Inner::in_edition))]
+pub fn write_config(cfg: &[u8], kind: Kind, out: &mut [u8]) -> Result<usize, Refusal>
     ensures value { (result ≡ written_of (rewrite_said cfg.now kind (length out.old))) × (FewBytes result) }
     ensures out_after { out.new ≡ over (rewrite_said cfg.now kind (length out.old)) out.old }
 {
-    let read = config::read_config(cfg);
-    let answer = read.answer;
-    match answer {
-        Answer::Yes => rewrite_in(read.config, kind, cfg, out),
-        Answer::No(refusal) => Written::No(refusal),
-    }
+    let config = config::read_config(cfg)?;
+    rewrite_in(config, kind, cfg, out)
 }

@@ -21,48 +21,33 @@ pub enum LineSort {
 }
 
 // Whether field i of a line, counted from 1, is a number or a code.
+#[tactic(auto, unfolding(crate::specs::Lines::is_number))]
 fn is_number(sort: LineSort, i: usize) -> bool
     ensures { result ≡ is_number sort i }
 {
     match sort {
-        LineSort::Kept => false,
+        LineSort::Kept | LineSort::Word => false,
         LineSort::Numbers => true,
-        LineSort::Analog => {
-            if i == 1 {
-                return true;
-            }
-            if i < 6 {
-                return false;
-            }
-            i <= 12
-        }
+        LineSort::Analog => i == 1 || 6 <= i && i <= 12,
         LineSort::Status => i == 1,
-        LineSort::Word => false,
     }
 }
 
 // Whether a byte of field i is left out, where `leads` says that nothing but spaces stands before it in the field.
+#[tactic(auto, unfolding(crate::specs::Inner::is_left_out))]
 fn is_left_out(sort: LineSort, i: usize, leads: bool, b: u8) -> bool
     ensures { result ≡ is_left_out sort i leads b }
 {
-    if !leads {
-        return false;
-    }
-    if b != 32 {
-        return false;
-    }
-    is_number(sort, i)
+    leads && b == 32 && is_number(sort, i)
 }
 
 // The field of the byte after a byte that stays in field i.
+#[tactic(auto, unfolding(crate::specs::Inner::next_field))]
 fn next_field(i: usize, b: u8) -> usize
     requires { i + 1 < 2 ^ 64 }
     ensures { result ≡ next_field i b }
 {
-    if b == 44 {
-        return i + 1;
-    }
-    i
+    if b == 44 { i + 1 } else { i }
 }
 
 // How many bytes the fields of a line take as they are written: no more than the line has.
@@ -73,10 +58,7 @@ fn fields_length(sort: LineSort, line: &[u8]) -> usize
     let mut size = 0;
     let mut field = 1;
     let mut leads = true;
-    let mut at = 0;
-    while at < line.len() {
-        let b = line[at];
-        at += 1;
+    for &b in line {
         if !is_left_out(sort, field, leads, b) {
             size += 1;
             field = next_field(field, b);
@@ -94,10 +76,7 @@ fn put_fields(out: &mut [u8], n: usize, sort: LineSort, line: &[u8]) -> usize
     let mut to = n;
     let mut field = 1;
     let mut leads = true;
-    let mut at = 0;
-    while at < line.len() {
-        let b = line[at];
-        at += 1;
+    for &b in line {
         if !is_left_out(sort, field, leads, b) {
             out[to] = b;
             to += 1;
@@ -109,6 +88,7 @@ fn put_fields(out: &mut [u8], n: usize, sort: LineSort, line: &[u8]) -> usize
 }
 
 // How many bytes a line takes as it is written: no more than it has, or than the word of a kind.
+#[tactic(auto, unfolding(crate::specs::Lines::line_text))]
 pub fn line_length(kind: Kind, sort: LineSort, line: &[u8]) -> usize
     ensures value { result ≡ length (line_text kind sort line.now) }
     ensures upper_bound { result ≤ length line.now + 8 }
@@ -121,6 +101,7 @@ pub fn line_length(kind: Kind, sort: LineSort, line: &[u8]) -> usize
 }
 
 // A line is put as it is written.
+#[tactic(auto, unfolding(crate::specs::Lines::line_text))]
 pub fn put_line(out: &mut [u8], n: usize, kind: Kind, sort: LineSort, line: &[u8]) -> usize
     requires { n + length (line_text kind sort line.now) ≤ length out.old }
     ensures { Put out.old n (line_text kind sort line.now) out.new result }

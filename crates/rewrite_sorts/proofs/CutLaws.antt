@@ -9,22 +9,26 @@ use Prim.Native.Nat.{ℕ, ◌+◌, ◌≤◌}
 use native.Mathlib.Omega.{arith}
 use borrow.Author.Tests.{ne_eqb}
 use lib.ListN.{length, take, length-append}
-use Rattle.text.specs.declared.Scanned.{Scanned}
-use Rattle.text.specs.declared.Scanned.TheVariants.{Line, Ends, Bad}
+use Rattle.std.proofs.Common.{Err, Ok, Result}
+use Rattle.std.specs.Result.{result_unwrap_or}
+use Rattle.text.specs.declared.LineError.{LineError}
+use Rattle.text.specs.declared.Line.{Line}
 use Rattle.text.specs.Lines.{scan_line, scan_last_line, line_bytes}
 use Rattle.text.proofs.LineLaws.{FoundLast, last_found, bytes-passed, line-scanned}
-use Rattle.rewrite_sorts.specs.Cuts.{cut_of, cut_line}
+use Rattle.rewrite_sorts.specs.Cuts.{cut_line}
+
+-- a line that was scanned, or one of no bytes
+abbrev cut_of : Result Line LineError → Line
+cut_of k = result_unwrap_or k (record { len = 0; taken = 0 })
 
 -- of a line, found or not
-within_of : (s : List ℕ) (k : Scanned) → FoundLast (length s) s k → ((cut_of k).len ≤ (cut_of k).taken) × ((cut_of k).taken ≤ length s)
-within_of s (Line n t) f = (f.before, f.within)
-within_of s Ends f = (omega arith, omega arith)
-within_of s Bad f = (omega arith, omega arith)
+within_of : (s : List ℕ) (k : Result Line LineError) → FoundLast (length s) s k → ((cut_of k).len ≤ (cut_of k).taken) × ((cut_of k).taken ≤ length s)
+within_of s (Ok one) f = (f.before, f.within)
+within_of s (Err e) f = (omega arith, omega arith)
 
-bytes-of : (s : List ℕ) (k : Scanned) → FoundLast (length s) s k → line_bytes (take (cut_of k).len s) ≡ true
-bytes-of s (Line n t) f = f.bytes
-bytes-of s Ends f = refl
-bytes-of s Bad f = refl
+bytes-of : (s : List ℕ) (k : Result Line LineError) → FoundLast (length s) s k → line_bytes (take (cut_of k).len s) ≡ true
+bytes-of s (Ok one) f = f.bytes
+bytes-of s (Err e) f = refl
 
 pub cut-within : (s : List ℕ) → ((cut_line s).len ≤ (cut_line s).taken) × ((cut_line s).taken ≤ length s)
 unfolding cut_line

@@ -10,23 +10,13 @@ ghost use Rattle.rewrite_sorts.specs.Cuts.{cut_line};
 use config_rules::Config;
 use model::Edition;
 use rewrite_lines::LineSort;
-use text::Scanned;
-
-// A line that was found: its length, and what it takes with its end.
-#[derive(Clone, Copy)]
-pub struct Cut {
-    pub len: usize,
-    pub taken: usize,
-}
+use text::Line;
 
 // How many lines of rates there are: no rates have one line all the same.
 fn rate_lines(rates: u32) -> usize
     ensures { result ≡ max 1 rates }
 {
-    if rates < 1 {
-        return 1;
-    }
-    rates as usize
+    rates.max(1) as usize
 }
 
 // How many lines follow that of the time multiplier.
@@ -40,6 +30,7 @@ fn end_lines(edition: Edition) -> usize
 }
 
 // How many lines a configuration has.
+#[tactic(auto, unfolding(crate::specs::Sorts::sorts))]
 pub fn line_count(config: Config) -> usize
     ensures value { result ≡ length (sorts config) }
     ensures upper_bound { result ≤ 2 ^ 34 }
@@ -47,37 +38,29 @@ pub fn line_count(config: Config) -> usize
     let layout = config.layout;
     let a = layout.analogs as usize;
     let d = layout.statuses as usize;
-    let edition = layout.edition;
-    8 + a + d + rate_lines(config.rates) + end_lines(edition)
+    8 + a + d + rate_lines(config.rates) + end_lines(layout.edition)
 }
 
 // What is done with the n-th line after that of the time multiplier, counted from 0.
 fn end_sort(edition: Edition, n: usize) -> LineSort
     ensures { result ≡ get_or (end_sorts edition) n Kept }
 {
-    if end_lines(edition) <= n {
-        return LineSort::Kept;
+    match (edition, n) {
+        (Edition::Y2013, 0) => LineSort::Numbers,
+        _ => LineSort::Kept,
     }
-    if n < 1 {
-        return LineSort::Numbers;
-    }
-    LineSort::Kept
 }
 
 // What is done with the n-th of the last lines, counted from 0.
 fn last_sort(edition: Edition, n: usize) -> LineSort
     ensures { result ≡ get_or (last_sorts edition) n Kept }
 {
-    if n < 2 {
-        return LineSort::Kept;
+    match n {
+        0 | 1 => LineSort::Kept,
+        2 => LineSort::Word,
+        3 => LineSort::Numbers,
+        _ => end_sort(edition, n - 4),
     }
-    if n < 3 {
-        return LineSort::Word;
-    }
-    if n < 4 {
-        return LineSort::Numbers;
-    }
-    end_sort(edition, n - 4)
 }
 
 // What is done with the n-th line from the line frequency on, counted from 0.
@@ -86,9 +69,10 @@ fn rate_sort(edition: Edition, rates: u32, n: usize) -> LineSort
 {
     let m = 2 + rate_lines(rates);
     if n < m {
-        return LineSort::Numbers;
+        LineSort::Numbers
+    } else {
+        last_sort(edition, n - m)
     }
-    last_sort(edition, n - m)
 }
 
 // What is done with the n-th line from the first channel on, counted from 0.
@@ -97,41 +81,33 @@ fn channel_sort(config: Config, n: usize) -> LineSort
 {
     let layout = config.layout;
     let a = layout.analogs as usize;
-    if n < a {
-        return LineSort::Analog;
-    }
-    let m = n - a;
     let d = layout.statuses as usize;
-    if m < d {
-        return LineSort::Status;
+    if n < a {
+        LineSort::Analog
+    } else if n - a < d {
+        LineSort::Status
+    } else {
+        rate_sort(layout.edition, config.rates, n - a - d)
     }
-    let edition = layout.edition;
-    rate_sort(edition, config.rates, m - d)
 }
 
 // What is done with the n-th line of a configuration, counted from 0.
+#[tactic(auto, unfolding(crate::specs::Sorts::sorts))]
 pub fn sort_of(config: Config, n: usize) -> LineSort
     ensures { result ≡ get_or (sorts config) n Kept }
 {
-    if n < 1 {
-        return LineSort::Kept;
+    match n {
+        0 => LineSort::Kept,
+        1 => LineSort::Numbers,
+        _ => channel_sort(config, n - 2),
     }
-    if n < 2 {
-        return LineSort::Numbers;
-    }
-    channel_sort(config, n - 2)
 }
 
-// The line with which s begins.
-pub fn cut_line(s: &[u8]) -> Cut
+// The line with which s begins; one of no bytes where there is none.
+#[tactic(auto, unfolding(crate::specs::Cuts::cut_line))]
+pub fn cut_line(s: &[u8]) -> Line
     ensures value { result ≡ cut_line s.now }
     ensures len_le_taken { (result.len ≤ result.taken) × (result.taken ≤ length s.now) }
 {
-    match text::scan_last_line(s, s.len()) {
-        Scanned::Line { len, taken } => Cut {
-            len: len,
-            taken: taken,
-        },
-        _ => Cut { len: 0, taken: 0 },
-    }
+    text::scan_last_line(s, s.len()).unwrap_or(Line { len: 0, taken: 0 })
 }

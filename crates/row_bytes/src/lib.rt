@@ -11,6 +11,7 @@ ghost use Rattle.row_bytes.specs.Inner.{length_of, length_by};
 use model::{Kind, Layout, Row};
 
 // How many bytes row n takes.
+#[tactic(auto, unfolding(crate::specs::Inner::length_of))]
 pub fn row_length(layout: Layout, n: u32, row: Row) -> usize
     requires { Sized layout }
     ensures { result ≡ length_of layout n row }
@@ -35,6 +36,7 @@ pub fn length_by(layout: Layout, n: u32, time: u32, samples: &[i32]) -> usize
 }
 
 // The bytes of row n fill the slice.
+#[tactic(auto, unfolding(crate::specs::Inner::length_of, crate::specs::Rows::bytes_of))]
 pub fn put_row(layout: Layout, n: u32, row: Row, d: &mut [u8])
     requires { (Sized layout) × (length d.old ≡ length_of layout n row) × (misfit layout row.samples ≡ layout.analogs) }
     ensures { d.new ≡ bytes_of layout n row }

@@ -2,12 +2,13 @@
 use Rattle.std.specs.Prelude.{Bool, not, ◌&&◌, ◌||◌, List, ◌∷◌, ◌++◌, ℕ, ◌+◌, ltb, leb, ℤ, pos, nat_abs, get_or, if◌then◌else◌}
 use Rattle.std.proofs.Math.Bool as bool
 use Rattle.std.specs.Int.Signed.{lt_z}
+use Rattle.std.specs.Option.{unwrap_or}
 use Rattle.ground.specs.Search.{first_fail}
 use Rattle.ground.specs.Tables.{tab, padded}
 use Rattle.model.specs.declared.Layout.{Layout}
 use Rattle.model.specs.declared.Row.{Row}
-use Rattle.model.specs.Samples.{missing, is_none, sample_of, holds}
-use Rattle.model.specs.Rows.{latest_time, sample_value}
+use Rattle.model.specs.Samples.{missing, none, is_none, sample_of, holds}
+use Rattle.model.specs.Rows.{latest_time}
 
 -- how many places a row has
 abbrev pub places_of : Layout → ℕ
@@ -19,7 +20,7 @@ bool_place on = if on then pos 1 else pos 0
 
 -- a sample as a place: its number, or "there is none" where it is missing
 unfoldable pub sample_place : ℤ → ℤ
-sample_place z = sample_value (sample_of z)
+sample_place z = unwrap_or (sample_of z) none
 
 -- a place as a sample: missing where there is none
 unfoldable pub place_sample : ℤ → ℤ

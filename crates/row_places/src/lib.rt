@@ -42,6 +42,7 @@ pub fn places_of(layout: Layout) -> usize
 }
 
 // A sample as a place.
+#[tactic(auto, unfolding(crate::specs::Rows::sample_place, model::specs::Samples::sample_of))]
 fn sample_place(z: i32) -> i64
     ensures { result ≡ sample_place z }
 {
@@ -56,10 +57,8 @@ fn put_samples(zs: &[i32], d: &mut [i64])
     requires { length d.old ≤ length zs.now }
     ensures { d.new ≡ tab (λ i. sample_place (get_or zs.now i (pos 0))) (length d.old) }
 {
-    let mut i = 0;
-    while i < d.len() {
-        d[i] = sample_place(zs[i]);
-        i += 1;
+    for (i, place) in d.iter_mut().enumerate() {
+        *place = sample_place(zs[i]);
     }
 }
 
@@ -68,14 +67,13 @@ fn put_statuses(s: &[bool], d: &mut [i64])
     requires { length d.old ≤ length s.now }
     ensures { d.new ≡ tab (λ i. bool_place (get_or s.now i false)) (length d.old) }
 {
-    let mut i = 0;
-    while i < d.len() {
-        d[i] = bool_place(s[i]);
-        i += 1;
+    for (i, place) in d.iter_mut().enumerate() {
+        *place = bool_place(s[i]);
     }
 }
 
 // The samples and statuses of a row fill the slice.
+#[tactic(auto, unfolding(crate::specs::Rows::row_places))]
 fn put_channels(layout: Layout, row: Row, d: &mut [i64])
     requires { (Sized layout) × (length d.old ≡ layout.analogs + layout.statuses) }
     ensures { pos row.time ∷ d.new ≡ row_places layout row }
@@ -98,6 +96,7 @@ pub fn put_row(layout: Layout, row: Row, d: &mut [i64])
 }
 
 // Whether a number is one from 0 to this one.
+#[tactic(auto, unfolding(crate::specs::Rows::up_to))]
 fn up_to(most: i64, z: i64) -> bool
     ensures { result ≡ up_to most z }
 {
@@ -111,6 +110,7 @@ fn up_to(most: i64, z: i64) -> bool
 }
 
 // Whether the place of a sample may hold z. Most samples are samples of every layout, which is asked first.
+#[tactic(auto, unfolding(crate::specs::Rows::fits_sample))]
 fn fits_sample(layout: Layout, z: i64) -> bool
     ensures { result ≡ fits_sample layout z }
 {
@@ -124,6 +124,7 @@ fn fits_sample(layout: Layout, z: i64) -> bool
 }
 
 // Whether place i may hold z.
+#[tactic(auto, unfolding(crate::specs::Rows::fits_place))]
 fn fits_place(layout: Layout, i: usize, z: i64) -> bool
     ensures { result ≡ fits_place layout i z }
 {
@@ -142,18 +143,16 @@ pub fn first_unfit(layout: Layout, zs: &[i64]) -> usize
     ensures { result ≡ unfit layout zs.now }
 {
     let end = places_of(layout);
-    let mut i = 0;
-    while i < end {
-        let z = zs[i];
-        if !fits_place(layout, i, z) {
+    for (i, z) in zs[..end].iter().enumerate() {
+        if !fits_place(layout, i, *z) {
             return i;
         }
-        i += 1;
     }
-    i
+    end
 }
 
 // A place as a sample.
+#[tactic(auto, unfolding(crate::specs::Rows::place_sample))]
 fn place_sample(z: i64) -> i32
     requires { is_none z ≡ false → mag z < 2 ^ 31 }
     ensures { result ≡ place_sample z }
@@ -170,10 +169,8 @@ fn samples_of(zs: &[i64]) -> [i32; 96]
     ensures { result ≡ padded (λ i. place_sample (get_or zs.now i (pos 0))) (length zs.now) 96 (pos 0) }
 {
     let mut out = [0i32; 96];
-    let mut i = 0;
-    while i < zs.len() {
-        out[i] = place_sample(zs[i]);
-        i += 1;
+    for (i, z) in zs.iter().enumerate() {
+        out[i] = place_sample(*z);
     }
     out
 }
@@ -184,16 +181,14 @@ fn statuses_of(zs: &[i64]) -> [bool; 256]
     ensures { result ≡ padded (λ i. lt_z (pos 0) (get_or zs.now i (pos 0))) (length zs.now) 256 false }
 {
     let mut out = [false; 256];
-    let mut i = 0;
-    while i < zs.len() {
-        let z = zs[i];
-        out[i] = 0 < z;
-        i += 1;
+    for (i, z) in zs.iter().enumerate() {
+        out[i] = 0 < *z;
     }
     out
 }
 
 // The row that places say, each of which fits.
+#[tactic(auto, unfolding(crate::specs::Rows::row_of_places))]
 pub fn row_of_places(layout: Layout, zs: &[i64]) -> Row
     requires { (Sized layout) × (places_of layout ≤ length zs.now) × (unfit layout zs.now ≡ places_of layout) }
     ensures { result ≡ row_of_places layout zs.now }

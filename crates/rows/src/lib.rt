@@ -3,16 +3,15 @@
 #![tactic(auto)]
 
 ghost use Rattle.std.specs.Prelude.{◌≡◌, ◌≤◌, length};
+ghost use Rattle.ground.specs.Said.{answer_of};
 ghost use Rattle.model.specs.Layouts.{Sized};
-ghost use Rattle.model.specs.Refusals.{answer_of};
 ghost use Rattle.binary_row.specs.Rows.{row_size};
-ghost use Rattle.ascii_file.specs.Inner.{checked_of};
 ghost use Rattle.rows.specs.Inner.{taken_here, binary_here, row_here, HasRow, fine_here, check_here, start_fine, end_fine};
 
-use ascii_file::Checked;
-use model::{Answer, Kind, Layout, Row};
+use model::{Kind, Layout, Refusal, Row};
 
 // How many bytes the row takes with which `rest` begins.
+#[tactic(auto, unfolding(crate::specs::Inner::taken_here))]
 pub fn taken_here(layout: Layout, rest: &[u8]) -> usize
     requires { Sized layout }
     ensures { result ≡ taken_here layout rest.now }
@@ -34,6 +33,7 @@ fn binary_row_here(layout: Layout, rest: &[u8]) -> Row
 }
 
 // The row with which `rest` begins.
+#[tactic(auto, unfolding(crate::specs::Inner::row_here))]
 pub fn row_here(layout: Layout, rest: &[u8]) -> Row
     requires { (Sized layout) × (HasRow layout rest.now) }
     ensures { result ≡ row_here layout rest.now }
@@ -64,6 +64,7 @@ fn binary_samples_here(layout: Layout, rest: &[u8]) -> [i32; 96]
 }
 
 // The timestamp of the row with which `rest` begins.
+#[tactic(auto, unfolding(crate::specs::Inner::row_here, ascii_row::specs::Rows::row_of))]
 pub fn time_here(layout: Layout, rest: &[u8]) -> u32
     requires { (Sized layout) × (HasRow layout rest.now) }
     ensures { result ≡ (row_here layout rest.now).time }
@@ -76,6 +77,7 @@ pub fn time_here(layout: Layout, rest: &[u8]) -> u32
 }
 
 // The samples of the row with which `rest` begins, and zeros.
+#[tactic(auto, unfolding(crate::specs::Inner::row_here, ascii_row::specs::Rows::row_of))]
 pub fn samples_here(layout: Layout, rest: &[u8]) -> [i32; 96]
     requires { (Sized layout) × (HasRow layout rest.now) }
     ensures { result ≡ (row_here layout rest.now).samples }
@@ -88,21 +90,20 @@ pub fn samples_here(layout: Layout, rest: &[u8]) -> [i32; 96]
 }
 
 // Row n of a binary kind, with which `rest` begins: its number, then its padding.
-fn check_binary_here(layout: Layout, n: u32, rest: &[u8]) -> Checked
+fn check_binary_here(layout: Layout, n: u32, rest: &[u8]) -> Result<usize, Refusal>
     requires { (Sized layout) × (row_size layout ≤ length rest.now) }
-    ensures { result ≡ checked_of (fine_here layout n rest.now) }
+    ensures { result ≡ answer_of (fine_here layout n rest.now) }
 {
     let size = binary_row::row_size(layout);
-    match binary_row::check_row(layout, n, &rest[..size]) {
-        Answer::Yes => Checked::Takes(size),
-        Answer::No(refusal) => Checked::No(refusal),
-    }
+    binary_row::check_row(layout, n, &rest[..size])?;
+    Ok(size)
 }
 
 // Row n, with which `rest` begins: how many bytes it takes, or why it is refused.
-pub fn check_here(layout: Layout, n: u32, rest: &[u8]) -> Checked
+#[tactic(auto, unfolding(crate::specs::Inner::check_here))]
+pub fn check_here(layout: Layout, n: u32, rest: &[u8]) -> Result<usize, Refusal>
     requires { (Sized layout) × (HasRow layout rest.now) }
-    ensures { result ≡ checked_of (check_here layout n rest.now) }
+    ensures { result ≡ answer_of (check_here layout n rest.now) }
 {
     let kind = layout.kind;
     match kind {
@@ -112,24 +113,26 @@ pub fn check_here(layout: Layout, n: u32, rest: &[u8]) -> Checked
 }
 
 // Whether a file has the length that its kind asks for.
-pub fn start_fine(layout: Layout, data: &[u8]) -> Answer
+#[tactic(auto, unfolding(crate::specs::Inner::start_fine))]
+pub fn start_fine(layout: Layout, data: &[u8]) -> Result<(), Refusal>
     requires { Sized layout }
     ensures { result ≡ answer_of (start_fine layout «data».now) }
 {
     let kind = layout.kind;
     match kind {
-        Kind::Ascii => Answer::Yes,
+        Kind::Ascii => Ok(()),
         Kind::Binary | Kind::Binary32 => binary_file::check_length(layout, data),
     }
 }
 
 // Whether this may follow the last row, where row n would stand.
-pub fn end_fine(layout: Layout, n: u32, rest: &[u8]) -> Answer
+#[tactic(auto, unfolding(crate::specs::Inner::end_fine))]
+pub fn end_fine(layout: Layout, n: u32, rest: &[u8]) -> Result<(), Refusal>
     ensures { result ≡ answer_of (end_fine layout n rest.now) }
 {
     let kind = layout.kind;
     match kind {
         Kind::Ascii => ascii_file::check_end(n, rest),
-        Kind::Binary | Kind::Binary32 => Answer::Yes,
+        Kind::Binary | Kind::Binary32 => Ok(()),
     }
 }

@@ -2,40 +2,26 @@
 use Prim.Native.Nat.{◌+◌}
 use Rattle.ascii_file.specs.Files.{take_row}
 use Rattle.ascii_row.specs.Rows.{check_line}
-use Rattle.model.proofs.AnswerLaws.{yes-told, no-told}
+use Rattle.model.proofs.AnswerLaws.{yes-told}
 use Rattle.text.proofs.LineLaws.{Lies, line-found}
 use lib.Seq.{length-take-le}
 use lib.ListN.{take}
 use native.Mathlib.Omega.{arith}
 use mathlib.Core.Path.{◌≡◌, sym, ◌∙◌}
 use Rattle.ascii_file.proofs.check_in_order.Goals as goal
-use Rattle.ascii_file.proofs.check_in_order.Goals.{In-Line}
+use Rattle.ascii_file.proofs.check_in_order.Goals.{In-Ok}
 
 -- what the scan says of the line that it found
-line : (c : In-Line)
-    → (c.in-Line.taken ≡ c.in-Line.len + 2) × Lies 1880 c.args.rest.now c.in-Line.len c.in-Line.taken
-line c =
-    line-found 1880 c.in-Line.len c.in-Line.taken c.args.rest.now (sym c.scan_line.ensures ∙ c.in-Line.is)
+found : (c : In-Ok)
+    → (c.in-Ok.line.taken ≡ c.in-Ok.line.len + 2) × Lies 1880 c.args.rest.now c.in-Ok.line.len c.in-Ok.line.taken
+found c =
+    line-found 1880 c.in-Ok.line.len c.in-Ok.line.taken c.args.rest.now (sym c.scan_line.ensures ∙ c.in-Ok.is)
 
 pub slice_bounds-check_line-end : goal.slice_bounds-check_line-end
-slice_bounds-check_line-end c = sym (length-take-le _ _ (omega (arith, (line (goal.at.slice_bounds-check_line-end c).In-Line).0, (line (goal.at.slice_bounds-check_line-end c).In-Line).1.within)))
+slice_bounds-check_line-end c = sym (length-take-le _ _ (omega (arith, (found (goal.at.slice_bounds-check_line-end c).In-Ok).0, (found (goal.at.slice_bounds-check_line-end c).In-Ok).1.within)))
 
-pub returns-in-Yes : goal.returns-in-Yes
+pub returns-in_ok-check_line-in-Ok : goal.returns-in_ok-check_line-in-Ok
 unfolding take_row
-returns-in-Yes c =
-    let told = yes-told (check_line c.args.layout c.args.n (take c.in-Line.len c.args.rest.now)) (sym c.check_line.ensures ∙ c.in-Yes.is) in
-    rw (← c.scan_line.ensures, c.in-Line.is, told, (line (goal.at.returns-in-Yes c).In-Line).0)
-
-pub returns-in-No : goal.returns-in-No
-unfolding take_row
-returns-in-No c =
-    let told = no-told (check_line c.args.layout c.args.n (take c.in-Line.len c.args.rest.now)) c.in-No.refusal (sym c.check_line.ensures ∙ c.in-No.is) in
-    rw (← c.scan_line.ensures, c.in-Line.is, told)
-
-pub returns-in-Ends : goal.returns-in-Ends
-unfolding take_row
-returns-in-Ends c = rw (c.refused.ensures, ← c.scan_line.ensures, c.in-Ends.is)
-
-pub returns-in-Bad : goal.returns-in-Bad
-unfolding take_row
-returns-in-Bad c = rw (c.refused-in-Bad.ensures, ← c.scan_line.ensures, c.in-Bad.is)
+returns-in_ok-check_line-in-Ok c =
+    let told = yes-told (check_line c.args.layout c.args.n (take c.in-Ok.line.len c.args.rest.now)) (sym c.check_line.ensures ∙ c.in_ok-check_line-in-Ok.was) in
+    rw (← c.scan_line.ensures, c.in-Ok.is, told, (found (goal.at.returns-in_ok-check_line-in-Ok c).In-Ok).0)

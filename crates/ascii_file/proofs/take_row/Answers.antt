@@ -1,10 +1,6 @@
 -- `ascii_file::take_row` meets its contract: where one walk reads the row through, it is fine.
 use Rattle.ascii_file.proofs.Laws.{row-takes}
-use borrow.Author.Rules.{rules}
 use Rattle.ascii_file.proofs.take_row.Goals as goal
-
-pub row_end-taken-requires : goal.row_end-taken-requires
-row_end-taken-requires c = search rules
 
 pub returns : goal.returns
 returns c = rw (row-takes _ _ c.args.rest.now _ (c.row_end-taken.ensures c.if-taken-lt1.false))

@@ -1,16 +1,12 @@
 -- `ascii_row::line_samples` meets its contract: what the fields say fills the first A places, and the rest is as it was, zero.
-use mathlib.Core.Path.{sym, ap, ◌∙◌}
+use mathlib.Core.Path.{ap, ◌∙◌}
 use mathlib.Core.List.{List}
 use Prim.Native.Nat.{ℕ}
 use lib.IntN.{pos}
 use Rattle.ground.specs.Tables.{padded}
-use Rattle.ground.proofs.Filled.{front_length, padded-fill}
+use Rattle.ground.proofs.Filled.{padded-fill}
 use Rattle.ascii_row.specs.Rows.{field_sample, row_of}
 use Rattle.ascii_row.proofs.line_samples.Goals as goal
-
-pub slice_bounds-read_samples-end : goal.slice_bounds-read_samples-end
-slice_bounds-read_samples-end c =
-    sym (front_length c.args.layout.analogs 96 (pos 0) c.requires.analogs)
 
 pub returns : goal.returns
 unfolding row_of

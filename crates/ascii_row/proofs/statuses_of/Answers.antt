@@ -1,12 +1,8 @@
 -- `ascii_row::statuses_of` meets its contract: what the fields say fills the first d places, and the rest is as it was, zero.
 use Rattle.ascii_row.specs.Rows.{field_status}
-use Rattle.ground.proofs.Filled.{front_length, padded-fill}
+use Rattle.ground.proofs.Filled.{padded-fill}
 use mathlib.Core.Bool.{false}
-use mathlib.Core.Path.{sym}
 use Rattle.ascii_row.proofs.statuses_of.Goals as goal
-
-pub slice_bounds-read_statuses-end : goal.slice_bounds-read_statuses-end
-slice_bounds-read_statuses-end c = sym (front_length c.args.d 256 false c.requires)
 
 pub returns : goal.returns
 returns c =

@@ -15,9 +15,6 @@ use Rattle.ascii_walk.proofs.WalkLaws.{empty-there, number-there}
 use Rattle.ascii_walk.proofs.sample_end.Goals as goal
 use Rattle.ascii_walk.proofs.sample_end.Goals.{After-struct_told-1}
 
-pub returns-then-s-at-ne44 : goal.returns-then-s-at-ne44
-returns-then-s-at-ne44 c = λ h. absurd (omega arith)
-
 pub returns-then-sample-lt1 : goal.returns-then-sample-lt1
 returns-then-sample-lt1 c = λ h.
     let e = c.empty_end.ensures h in

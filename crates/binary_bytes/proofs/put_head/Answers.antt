@@ -1,5 +1,5 @@
 -- `binary_bytes::put_head` meets its contract: the number fills the first part, and the timestamp the second.
-use mathlib.Core.Path.{◌≡◌, sym, ap, ◌∙◌}
+use mathlib.Core.Path.{◌≡◌, ap, ◌∙◌}
 use Prim.Native.Nat.{ℕ}
 use native.Mathlib.Omega.{arith}
 use lib.ListN.{length}
@@ -8,9 +8,6 @@ use Rattle.ground.proofs.Parts.{halves, half_length}
 use Rattle.words.specs.Words.{word_bytes}
 use Rattle.words.proofs.WordLaws.{length-word_bytes}
 use Rattle.binary_bytes.proofs.put_head.Goals as goal
-
-pub slice_bounds-put_word-end-2 : goal.slice_bounds-put_word-end-2
-slice_bounds-put_word-end-2 c = sym (length-take-le 4 c.args.d.now (omega arith))
 
 pub returns : goal.returns
 returns c =

@@ -1,11 +1,9 @@
 -- `binary_bytes::put_samples` meets its contract. The loop's invariant: the slice begins with the bytes of i samples, and the rest is as it was.
--- The measure is what is left of A.
-use mathlib.Core.Path.{◌≡◌, refl, ap, ◌∙◌}
+use mathlib.Core.Path.{◌≡◌, ap, ◌∙◌}
 use mathlib.Core.List.{append-nil}
 use Prim.Native.Nat.{◌≤◌, ◌*◌, ◌+◌}
 use native.Mathlib.Nat.{zero-mul}
 use native.Mathlib.Omega.{arith}
-use borrow.Author.Rules.{rules}
 use lib.IntN.{pos}
 use lib.ListN.{length, get_or}
 use lib.Seq.{drop-length}
@@ -24,12 +22,13 @@ use Rattle.binary_bytes.proofs.put_samples.Goals as goal
 use Rattle.binary_bytes.proofs.put_samples.Goals.{After-z-1, In-loop-i}
 
 pub loop-i-init : goal.loop-i-init
-loop-i-init c = (search rules, refl, rw zero-mul)
+loop-i-init c = rw zero-mul
 
 -- the bytes of sample i lie within the slice
 room : (c : In-loop-i) → let w = c.width-width.result in c.loop-i.i * w + w ≤ length c.loop-i.d
 room c =
-    rw (c.loop-i.invariant.1, c.requires.1, ← c.width-width.ensures) (block-end c.loop-i.i c.args.layout.analogs c.width-width.result c.loop-i-test.true)
+    let e : length c.loop-i.d ≡ length c.args.d.now = omega arith in
+    rw (e, c.requires.1, ← c.width-width.ensures) (block-end c.loop-i.i c.args.layout.analogs c.width-width.result c.loop-i-test.true)
 
 pub overflow_mul-from : goal.overflow_mul-from
 overflow_mul-from c = omega (arith, room (goal.at.overflow_mul-from c).In-loop-i)
@@ -63,11 +62,11 @@ loop-i-preserved c =
     let n = u.ensures ∙ ap (word_of_sample h) (back (goal.at.loop-i-preserved c).After-z-1) in
     let y = put-part p.d (p.i * w) w u.result put.new.d r put.ensures ∙ ap (word_bytes w) n in
     let t =
-    cat-turn (sample_bytes w h c.args.zs.now) w (λ i. length-word_bytes w _) c.args.d.now p.d put.new.d p.i p.invariant.1 p.invariant.2 r y in
-    (omega arith, t.0, t.1)
+    cat-turn (sample_bytes w h c.args.zs.now) w (λ i. length-word_bytes w _) c.args.d.now p.d put.new.d p.i (omega arith) p.invariant r y in
+    t.1
 
 pub returns : goal.returns
 returns c =
     let e : c.loop-i.i ≡ c.args.layout.analogs = omega arith in
     let l : length c.args.d.now ≡ c.args.layout.analogs * c.width-width.result = c.requires.1 ∙ rw c.width-width.ensures in
-    c.loop-i.invariant.2 ∙ rw (e, ← l, drop-length, append-nil, c.half-half.ensures, c.width-width.ensures)
+    c.loop-i.invariant ∙ rw (e, ← l, drop-length, append-nil, c.half-half.ensures, c.width-width.ensures)

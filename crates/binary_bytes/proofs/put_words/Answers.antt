@@ -1,5 +1,4 @@
 -- `binary_bytes::put_words` meets its contract. The loop's invariant: the slice begins with the bytes of j words, and the rest is as it was.
--- The measure is the words that are left.
 use mathlib.Core.Path.{◌≡◌, ap, ◌∙◌}
 use mathlib.Core.List.{append-nil}
 use Prim.Native.Nat.{◌≤◌, ◌*◌, ◌+◌}
@@ -23,11 +22,11 @@ loop-j-preserved c =
     let room : p.j * 2 + 2 ≤ length p.d = omega arith in
     let n : pack.result ≡ packed (part (p.j * 16) (word_end c.args.count p.j) c.args.s.now) = pack.ensures ∙ rw c.lesser-to.ensures in
     let y = put-part p.d (p.j * 2) 2 pack.result put.new.d room put.ensures ∙ ap (word_bytes 2) n in
-    let t = cat-turn f 2 (λ i. length-word_bytes 2 _) c.args.d.now p.d put.new.d p.j p.invariant.1 p.invariant.2 room y in
-    (omega arith, t.0, t.1)
+    let t = cat-turn f 2 (λ i. length-word_bytes 2 _) c.args.d.now p.d put.new.d p.j (omega arith) p.invariant room y in
+    t.1
 
 pub returns : goal.returns
 returns c =
     let e : c.loop-j.j ≡ words_of c.args.count = omega arith in
     let l : length c.args.d.now ≡ words_of c.args.count * 2 = omega arith in
-    c.loop-j.invariant.2 ∙ rw (e, ← l, drop-length, append-nil)
+    c.loop-j.invariant ∙ rw (e, ← l, drop-length, append-nil)

@@ -1,13 +1,11 @@
--- `binary_file::check_rows` meets its contract. The loop's invariant: the rows from i on say what all rows say. The measure is what is left of the rows.
+-- `binary_file::check_rows` meets its contract. The loop's invariant: the rows from i on say what all rows say.
 use mathlib.Core.Path.{◌≡◌, sym, ◌∙◌}
 use Prim.Native.Nat.{◌≤◌, ◌*◌, ◌-◌, ◌+◌}
 use native.Mathlib.Nat.{sub-zero}
 use native.Mathlib.Omega.{arith}
-use borrow.Author.Rules.{rules}
 use lib.ListN.{length}
-use Rattle.ground.specs.Said.{Said, ◌>>◌}
+use Rattle.ground.specs.Said.{Said, ◌>>◌, answer_of}
 use Rattle.model.specs.declared.Refusal.{Refusal}
-use Rattle.model.specs.Refusals.{answer_of}
 use Rattle.model.proofs.AnswerLaws.{yes-told, no-told}
 use Rattle.binary_row.specs.Rows.{check_row}
 use Rattle.binary_file.specs.Files.{row_bytes, check_rows}
@@ -16,7 +14,7 @@ use Rattle.binary_file.proofs.check_rows.Goals as goal
 use Rattle.binary_file.proofs.check_rows.Goals.{After-check_row, In-loop-i}
 
 pub loop-i-init : goal.loop-i-init
-loop-i-init c = (search rules, rw sub-zero)
+loop-i-init c = rw sub-zero
 
 -- row i lies within the file
 room : (c : In-loop-i)
@@ -48,17 +46,18 @@ answered c = sym (c.check_row.ensures ∙ rw c.row_size-size.ensures)
 -- and then what the rows after it say
 step : (c : After-check_row) → (here c >> check_rows c.args.layout c.args.«data».now (c.loop-i.i + 1) (c.args.layout.rows - (c.loop-i.i + 1))) ≡ check_rows c.args.layout c.args.«data».now 0 c.args.layout.rows
 step c =
-    rw (← rows-turn c.args.layout c.args.«data».now c.loop-i.i c.args.layout.rows (omega arith)) c.loop-i.invariant.1
+    rw (← rows-turn c.args.layout c.args.«data».now c.loop-i.i c.args.layout.rows (omega arith)) c.loop-i.invariant
 
-pub returns-in-No : goal.returns-in-No
-returns-in-No c =
-    rw (← step (goal.at.returns-in-No c).After-check_row, no-told (here (goal.at.returns-in-No c).After-check_row) c.in-No.refusal (answered (goal.at.returns-in-No c).After-check_row ∙ c.in-No.is))
+pub returns-in_err-check_row : goal.returns-in_err-check_row
+returns-in_err-check_row c =
+    let b = (goal.at.returns-in_err-check_row c).After-check_row in
+    rw (← step b, no-told (here b) c.in_err-check_row.field-0.0 (answered b ∙ c.in_err-check_row.was)) (grind arith)
 
 pub loop-i-preserved : goal.loop-i-preserved
-loop-i-preserved c = (omega arith, rw (yes-told (here (goal.at.loop-i-preserved c).After-check_row) (answered (goal.at.loop-i-preserved c).After-check_row ∙ c.in-Yes.is)) at (step (goal.at.loop-i-preserved c).After-check_row))
+loop-i-preserved c = rw (yes-told (here (goal.at.loop-i-preserved c).After-check_row) (answered (goal.at.loop-i-preserved c).After-check_row ∙ c.in_ok-check_row.was)) at (step (goal.at.loop-i-preserved c).After-check_row)
 
 pub returns : goal.returns
 unfolding check_rows
 returns c =
     let e : c.args.layout.rows - c.loop-i.i ≡ 0 = omega arith in
-    rw (← c.loop-i.invariant.1, e, check_rows)
+    rw (← c.loop-i.invariant, e, check_rows)

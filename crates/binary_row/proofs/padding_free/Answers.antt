@@ -2,13 +2,10 @@
 use mathlib.Core.Path.{◌∙◌}
 use Prim.Native.Nat.{◌<◌, ◌*◌, ◌+◌, ◌^◌, ◌%◌, ◌/◌}
 use native.Mathlib.Omega.{arith}
-use borrow.Author.Tests.{eq-eqb, ne_eqb}
+use borrow.Author.Tests.{ne_eqb}
 use Rattle.words.proofs.WordLaws.{all-bytes, word_of-part-lt}
 use Rattle.binary_row.proofs.BitLaws.{mask-test}
 use Rattle.binary_row.proofs.padding_free.Goals as goal
-
-pub returns-then-k-eq0 : goal.returns-then-k-eq0
-returns-then-k-eq0 c = rw (eq-eqb (c.args.d % 16) 0 c.if-k-eq0.true)
 
 pub returns : goal.returns
 returns c =

@@ -1,6 +1,5 @@
 -- `binary_row::row_of` meets its contract: each place is the definition's, of its part of the bytes.
 use Rattle.binary_row.proofs.SizeLaws.{sizes, words-length}
-use Rattle.binary_row.specs.Rows.{row_of}
 use native.Mathlib.Omega.{arith}
 use Rattle.binary_row.proofs.row_of.Goals as goal
 
@@ -16,8 +15,3 @@ slice_bounds-statuses_of-start c = slice_bounds-statuses_of-count c
 pub statuses_of-statuses-requires : goal.statuses_of-statuses-requires
 statuses_of-statuses-requires c =
     (c.requires.0.statuses, rw (c.samples_end-mid.ensures, c.requires.1) (words-length c.args.layout c.args.bytes.now c.requires.1))
-
-pub returns : goal.returns
-unfolding row_of
-returns c =
-    rw (c.row_time-time.ensures, c.row_samples-samples.ensures, c.statuses_of-statuses.ensures, c.samples_end-mid.ensures, c.requires.1)

@@ -1,4 +1,4 @@
--- `binary_row::samples_of` meets its contract. The loop's invariant: the first i places have their samples, and the rest is zero. The measure is what is left of a.
+-- `binary_row::samples_of` meets its contract. The loop's invariant: the first i places have their samples, and the rest is zero.
 use mathlib.Core.Path.{◌≡◌, ◌∙◌}
 use Prim.Native.Nat.{◌≤◌, ◌<◌, ◌*◌, ◌-◌, ◌+◌, ◌^◌}
 use native.Mathlib.Nat.{le_trans}
@@ -53,9 +53,9 @@ loop-i-preserved c =
     let z = c.sample_of_word in
     let f = bytes_sample c.width-width.result c.half-half.result c.args.b.now in
     let kept = to_z-of_z w32 z.result (record { sfits = z.type_inv }) in
-    (omega arith, rw (kept, z.ensures, c.word_of-n.ensures, c.loop-i.invariant.1) (padded-set f c.loop-i.i 96 (pos 0) (omega arith)))
+    rw (kept, z.ensures, c.word_of-n.ensures, c.loop-i.invariant) (padded-set f c.loop-i.i 96 (pos 0) (omega arith))
 
 pub returns : goal.returns
 returns c =
     let e : c.loop-i.i ≡ c.args.a = omega arith in
-    c.loop-i.invariant.1 ∙ rw (e, c.half-half.ensures, c.width-width.ensures)
+    c.loop-i.invariant ∙ rw (e, c.half-half.ensures, c.width-width.ensures)

@@ -1,5 +1,4 @@
 -- `change::write_rows` meets its contract. The loop's invariant: t is what follows i rows, and the slice begins with the bytes of i rows, which end at from; the rest is as it was.
--- The measure is how many rows are left.
 use Rattle.change_length.proofs.LengthLaws.{rows_next, rows-within, length-rows}
 use Rattle.model.proofs.LayoutLaws.{sized-in}
 use Rattle.change_length.specs.Inner.{rows_length, rows_bytes}
@@ -11,7 +10,7 @@ use Rattle.row_bytes.proofs.RowLaws.{length-bytes}
 use Rattle.data.specs.Files.{misfit_of, row_at}
 use Rattle.model.specs.declared.Layout.{Layout}
 use Rattle.ground.proofs.Walk.{rest}
-use Rattle.ground.proofs.Parts.{put_next, put-length, length_part}
+use Rattle.ground.proofs.Parts.{put_next, length_part}
 use lib.Seq.{drop-length}
 use lib.ListN.{length, drop, length-drop}
 use native.Mathlib.Omega.{arith}
@@ -25,13 +24,13 @@ use Rattle.change.proofs.write_rows.Goals.{After-row_length, After-taken_here-ta
 pub loop-i-init : goal.loop-i-init
 unfolding rows_length
 loop-i-init c =
-    (omega arith, omega arith, sym (rest-none c.args.layout c.args.«data».now), refl, refl, refl)
+    (omega arith, sym (rest-none c.args.layout c.args.«data».now), refl, refl)
 
 -- a row is left
 left : (c : In-loop-i) → HasRow c.args.layout c.loop-i.t.now
 left c =
     let p = c.loop-i in
-    rw p.invariant.2 (has-row c.args.layout c.args.«data».now c.requires.sized.1 p.i c.loop-i-test.true)
+    rw p.invariant.1 (has-row c.args.layout c.args.«data».now c.requires.sized.1 p.i c.loop-i-test.true)
 
 pub row_here-row-requires : goal.row_here-row-requires
 row_here-row-requires c = (c.requires.sized.0, λ other. omega (arith, left (goal.at.row_here-row-requires c).In-loop-i other, c.loop-i.invariant.0))
@@ -45,7 +44,7 @@ row : (c : After-row_length)
     → c.row_here-row.result ≡ row_at c.args.layout c.args.«data».now c.loop-i.i
 row c =
     let p = c.loop-i in
-    rw (c.row_here-row.ensures, row-here c.args.layout c.args.«data».now p.i, ← p.invariant.2)
+    rw (c.row_here-row.ensures, row-here c.args.layout c.args.«data».now p.i, ← p.invariant.1)
 
 long : (c : After-row_length)
     → let i = c.loop-i.i in
@@ -59,7 +58,7 @@ room c =
     let n = new.result in
     let r = row_at c.args.layout c.args.«data».now in
     let whole : length c.args.d.now ≡ rows_length n r c.args.layout.rows = c.requires.d_len.0 ∙ rw new.ensures in
-    omega (arith, long c, whole, p.invariant.3, p.invariant.4, rows-within n r c.args.layout.rows p.i c.loop-i-test.true)
+    omega (arith, long c, whole, p.invariant.2, rows-within n r c.args.layout.rows p.i c.loop-i-test.true)
 
 pub overflow_add-to : goal.overflow_add-to
 overflow_add-to c = omega (arith, room (goal.at.overflow_add-to c).After-row_length)
@@ -89,9 +88,6 @@ slice_bounds-t-count c =
 pub slice_bounds-t-start : goal.slice_bounds-t-start
 slice_bounds-t-start c = slice_bounds-t-count (goal.at.slice_bounds-t-start c).After-taken_here-taken
 
-pub loop-i-smaller : goal.loop-i-smaller
-loop-i-smaller c = omega (arith, c.loop-i-test.true)
-
 pub loop-i-preserved : goal.loop-i-preserved
 loop-i-preserved c =
     let l = c.args.layout in
@@ -103,26 +99,21 @@ loop-i-preserved c =
     let ys = c.put_row.new.d in
     let y : ys ≡ bytes_of n (p.i + 1) (r p.i) = c.put_row.ensures ∙ rw (row (goal.at.loop-i-preserved c).After-row_length) in
     let b : length ys ≡ c.row_length.result = ap length y ∙ sym (length-bytes n (p.i + 1) (r p.i)) ∙ sym (long (goal.at.loop-i-preserved c).After-row_length) in
-    let next = put_next c.args.d.now (rows_bytes n r p.i) ys p.from to (length-rows n r p.i ∙ sym p.invariant.4) (omega arith) in
+    let next = put_next c.args.d.now (rows_bytes n r p.i) ys p.from to (length-rows n r p.i ∙ sym p.invariant.2) (omega arith) in
     let more : rows_bytes n r p.i ++ ys ≡ rows_bytes n r (p.i + 1)
     = ap (λ (x : List ℕ). rows_bytes n r p.i ++ x) y ∙ ap (rows_bytes n r) (sym (add-one p.i)) in (
       rw (rest, length-drop) (omega arith),
-      omega (arith, c.loop-i-test.true),
-      rw (rest, rest-next l f p.i, ← p.invariant.2, c.taken_here-taken.ensures),
-      put-length p.from to p.d ys (omega arith) (room (goal.at.loop-i-preserved c).After-row_length) (omega arith) ∙ p.invariant.3,
-      rw (rows_next n r p.i, ← p.invariant.4, ← long (goal.at.loop-i-preserved c).After-row_length),
-      rw p.invariant.5 (next ∙ ap (λ (x : List ℕ). x ++ drop to c.args.d.now) more),
+      rw (rest, rest-next l f p.i, ← p.invariant.1, c.taken_here-taken.ensures),
+      rw (rows_next n r p.i, ← p.invariant.2, ← long (goal.at.loop-i-preserved c).After-row_length),
+      rw p.invariant.3 (next ∙ ap (λ (x : List ℕ). x ++ drop to c.args.d.now) more),
     )
-
-pub shape_of-d : goal.shape_of-d
-shape_of-d c = c.loop-i.invariant.3
 
 pub returns : goal.returns
 returns c =
     let n = c.in_kind-new.result in
     let r = row_at c.args.layout c.args.«data».now in
-    let e : c.loop-i.i ≡ c.args.layout.rows = omega (arith, c.loop-i-test.false, c.loop-i.invariant.1) in
+    let e : c.loop-i.i ≡ c.args.layout.rows = omega (arith, c.loop-i-test.false) in
     let long : length c.args.d.now ≡ c.loop-i.from
-    = c.requires.d_len.0 ∙ ap (λ (m : Layout). rows_length m r c.args.layout.rows) (sym c.in_kind-new.ensures) ∙ ap (rows_length n r) (sym e) ∙ sym c.loop-i.invariant.4 in
-    c.loop-i.invariant.5
+    = c.requires.d_len.0 ∙ ap (λ (m : Layout). rows_length m r c.args.layout.rows) (sym c.in_kind-new.ensures) ∙ ap (rows_length n r) (sym e) ∙ sym c.loop-i.invariant.2 in
+    c.loop-i.invariant.3
     ∙ rw (← long, drop-length, append-nil) (ap (rows_bytes n r) e ∙ ap (λ (m : Layout). rows_bytes m r c.args.layout.rows) c.in_kind-new.ensures)

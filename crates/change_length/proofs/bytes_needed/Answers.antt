@@ -1,6 +1,5 @@
 -- `bytes_needed` meets its contract: a layout within the sizes, a kind that its edition has, and then what is decided.
 use Rattle.change_length.proofs.LengthLaws.{needed-decided}
-use Rattle.change_length.specs.Needed.{bytes_needed}
 use Rattle.model.proofs.LayoutLaws.{sized}
 use Rattle.model.specs.Layouts.{is_sized}
 use mathlib.Core.Bool.{true}
@@ -11,15 +10,6 @@ use Rattle.change_length.proofs.bytes_needed.Goals.{Else-not-is_sized}
 -- the layout is within the sizes
 ok : (c : Else-not-is_sized) → is_sized c.args.layout ≡ true
 ok c = sym c.is_sized.ensures ∙ c.if-not-is_sized.false
-
-pub returns-then-not-is_sized : goal.returns-then-not-is_sized
-unfolding bytes_needed
-returns-then-not-is_sized c = (rw (c.refused.ensures, ← c.is_sized.ensures, c.if-not-is_sized.true), tt)
-
-pub returns-then-not-has : goal.returns-then-not-has
-unfolding bytes_needed
-returns-then-not-has c =
-    (rw (c.refused-then-not-has.ensures, ok (goal.at.returns-then-not-has c).Else-not-is_sized, ← c.has.ensures, c.if-not-has.true), tt)
 
 pub decide-requires : goal.decide-requires
 decide-requires c = sized c.args.layout (ok (goal.at.decide-requires c).Else-not-is_sized)

@@ -2,23 +2,18 @@
 use mathlib.Core.Path.{◌≡◌, sym, ◌∙◌}
 use Prim.Native.Nat.{◌*◌, ◌<◌, ◌^◌}
 use native.Mathlib.Omega.{arith}
-use Rattle.model.proofs.AnswerLaws.{yes-told, no-told}
+use Rattle.model.proofs.AnswerLaws.{yes-told}
 use Rattle.binary_row.specs.Rows.{row_size}
 use Rattle.binary_file.proofs.Laws.{whole}
 use Rattle.recode.specs.Inner.{fit_from}
 use Rattle.model.specs.Layouts.{in_kind}
 use Rattle.change_length.specs.Inner.{settle_binary}
-use Rattle.model.proofs.LayoutLaws.{sized-in}
 use Rattle.change_length.proofs.BinaryLaws.{few-binary}
 use Rattle.change_length.proofs.settle_binary.Goals as goal
 use Rattle.change_length.proofs.settle_binary.Goals.{After-row_size-size}
 
 pub all_fit-requires : goal.all_fit-requires
 all_fit-requires c = (c.requires.0, (whole c.args.layout c.args.«data».now c.requires.1).0, c.requires.2)
-
-pub row_size-size-requires : goal.row_size-size-requires
-row_size-size-requires c =
-    rw c.in_kind.ensures (sized-in c.args.kind c.args.layout c.requires.0)
 
 -- the new row's size, and how many bytes all take
 size : (c : After-row_size-size)
@@ -32,14 +27,8 @@ few c =
 pub overflow_mul-result : goal.overflow_mul-result
 overflow_mul-result c = omega (arith, few (goal.at.overflow_mul-result c).After-row_size-size)
 
-pub returns-in-Yes : goal.returns-in-Yes
+pub returns : goal.returns
 unfolding settle_binary
-returns-in-Yes c =
-    let told = yes-told (fit_from c.args.layout c.args.kind c.args.«data».now 0 c.args.layout.rows) (sym c.all_fit.ensures ∙ c.in-Yes.is) in
-    (rw (size (goal.at.returns-in-Yes c).After-row_size-size, told), few (goal.at.returns-in-Yes c).After-row_size-size)
-
-pub returns-in-No : goal.returns-in-No
-unfolding settle_binary
-returns-in-No c =
-    let told = no-told (fit_from c.args.layout c.args.kind c.args.«data».now 0 c.args.layout.rows) c.in-No.refusal (sym c.all_fit.ensures ∙ c.in-No.is) in
-    (rw told, tt)
+returns c =
+    let told = yes-told (fit_from c.args.layout c.args.kind c.args.«data».now 0 c.args.layout.rows) (sym c.all_fit.ensures ∙ c.in_ok-all_fit.was) in
+    (rw (size (goal.at.returns c).After-row_size-size, told), few (goal.at.returns c).After-row_size-size)

@@ -1,36 +1,17 @@
 -- `change_length::weigh` meets its contract: the row's misfit and its length, from its timestamp and its samples alone.
 use Rattle.change_length.proofs.TallyLaws.{tallied-length}
-use Rattle.model.proofs.LayoutLaws.{sized-in}
-use Rattle.model.specs.Layouts.{Sized, in_kind}
+use Rattle.model.specs.Layouts.{in_kind}
 use Rattle.change_length.specs.Inner.{weigh}
 use Rattle.rows.specs.Inner.{row_here}
 use Rattle.row_bytes.specs.Inner.{length_of}
 use Rattle.row_bytes.proofs.RowLaws.{length-known}
 use Rattle.data.specs.Files.{misfit_of}
 use Rattle.model.proofs.FitLaws.{misfit-le}
-use lib.ListN.{length}
 use native.Mathlib.Omega.{arith}
 use Prim.Native.Nat.{◌≤◌}
 use mathlib.Core.Path.{◌≡◌}
-use borrow.Author.Rules.{rules}
 use Rattle.change_length.proofs.weigh.Goals as goal
 use Rattle.change_length.proofs.weigh.Goals.{After-first_misfit-bad, After-in_kind-new, After-length_by-size, After-samples_here-samples}
-
--- the layout that is written
-new-sized : (c : After-in_kind-new) → Sized c.in_kind-new.result
-new-sized c =
-    rw c.in_kind-new.ensures (sized-in c.args.kind c.args.layout c.requires.0)
-
-pub first_misfit-bad-requires : goal.first_misfit-bad-requires
-first_misfit-bad-requires c = new-sized (goal.at.first_misfit-bad-requires c).After-in_kind-new
-
--- the samples have their room
-wide : (c : After-samples_here-samples) → 96 ≤ length c.samples_here-samples.result
-wide c = let w : length c.samples_here-samples.result ≡ 96 = search rules in omega arith
-
-pub length_by-size-requires : goal.length_by-size-requires
-length_by-size-requires c =
-    (new-sized (goal.at.length_by-size-requires c).After-in_kind-new, wide (goal.at.length_by-size-requires c).After-samples_here-samples)
 
 -- the first misfit, and the length
 found : (c : After-first_misfit-bad)

@@ -1,22 +1,12 @@
--- `limits_fault` meets its contract.
-use mathlib.Core.Path.{sym, ◌∙◌}
-use Rattle.channel_lines.specs.Channels.{limits}
-use Rattle.channel_lines.specs.Inner.{max_from}
+-- `limits_fault` meets its contract: what was read as a limit is one.
+use Rattle.std.proofs.Common.{sym}
+use mathlib.Core.Path.{◌∙◌}
 use Rattle.reals.proofs.LimitLaws.{limit-sound}
+use Rattle.line_fields.proofs.ValueLaws.{value-read}
 use Rattle.channel_lines.proofs.limits_fault.Goals as goal
 
-pub max_fault-requires : goal.max_fault-requires
-max_fault-requires c = limit-sound _ c.in-Is.min (sym c.read_limit.ensures ∙ c.in-Is.is)
-
-pub returns-in-Form : goal.returns-in-Form
-unfolding limits
-returns-in-Form c = rw (c.at.ensures, ← c.field_at.ensures, ← c.read_limit.ensures, c.in-Form.is)
-
-pub returns-in-Range : goal.returns-in-Range
-unfolding limits
-returns-in-Range c = rw (c.at-in-Range.ensures, ← c.field_at.ensures, ← c.read_limit.ensures, c.in-Range.is)
-
-pub returns-in-Is : goal.returns-in-Is
-unfolding limits max_from
-returns-in-Is c =
-    rw (c.max_fault.ensures, ← c.field_at.ensures, ← c.read_limit.ensures, c.in-Is.is, ← c.field_at-in-Is.ensures)
+pub max_below-requires : goal.max_below-requires
+max_below-requires c = record {
+  sound = limit-sound _ _ (sym c.read_limit-2.ensures ∙ value-read 10 _ _ c.in_ok-max.ensures);
+  sound_2 = limit-sound _ _ (sym c.read_limit.ensures ∙ value-read 9 _ _ c.in_ok-min.ensures);
+}

@@ -1,16 +1,10 @@
 -- `minutes_of` meets its contract: hours and minutes are judged apart.
 use Rattle.patterns.specs.Patterns.{between}
 use mathlib.Core.Bool.{true}
-use Rattle.words.proofs.MachineLaws.{read_back}
 use mathlib.Core.Path.{sym, ◌∙◌, ◌≡◌}
-use Rattle.codes.specs.Codes.{minutes_of}
 use Rattle.patterns.proofs.PatternLaws.{between-bounds}
 use Rattle.codes.proofs.minutes_of.Goals as goal
 use Rattle.codes.proofs.minutes_of.Goals.{Else-not-between, Else-not-between-2}
-
-pub returns-then-not-between : goal.returns-then-not-between
-unfolding minutes_of
-returns-then-not-between c = rw (← c.between.ensures, c.if-not-between.true)
 
 -- the hours, and then the minutes, are within their bounds
 hours-in : (c : Else-not-between) → between 0 14 c.args.hours ≡ true
@@ -19,15 +13,5 @@ hours-in c = sym c.between.ensures ∙ c.if-not-between.false
 minutes-in : (c : Else-not-between-2) → between 0 59 c.args.minutes ≡ true
 minutes-in c = sym c.between-2.ensures ∙ c.if-not-between-2.false
 
-pub returns-then-not-between-2 : goal.returns-then-not-between-2
-unfolding minutes_of
-returns-then-not-between-2 c = rw (hours-in (goal.at.returns-then-not-between-2 c).Else-not-between, ← c.between-2.ensures, c.if-not-between-2.true)
-
 pub signed_minutes-requires : goal.signed_minutes-requires
 signed_minutes-requires c = ((between-bounds 0 14 _ (hours-in (goal.at.signed_minutes-requires c).Else-not-between)).1, (between-bounds 0 59 _ (minutes-in c)).1)
-
-pub returns : goal.returns
-unfolding minutes_of
-returns c =
-    let s = c.signed_minutes in
-    rw (read_back s.result s.type_inv, s.ensures, hours-in (goal.at.returns c).Else-not-between, minutes-in (goal.at.returns c).Else-not-between-2)

@@ -1,13 +1,9 @@
--- `take_trigger` meets its contract.
+-- `take_trigger` meets its contract: both stamps are of the calendar, or no date.
+use Rattle.std.proofs.Common.{sym}
 use Rattle.config_lines.proofs.Laws.{date-valid}
-use Rattle.config_rules.specs.Inner.{take_line, Ready}
+use Rattle.config_rules.specs.Inner.{Ready}
 use Rattle.config_rules.proofs.take_trigger.Goals as goal
 
 pub pretrigger_of-pretrigger-requires : goal.pretrigger_of-pretrigger-requires
 unfolding Ready
-pretrigger_of-pretrigger-requires c =
-    (c.requires, rw c.date_line-k.ensures (date-valid c.args.line.now))
-
-pub returns : goal.returns
-unfolding take_line
-returns c = rw (c.judged.ensures, c.with_stamps.ensures, c.pretrigger_of-pretrigger.ensures, c.date_line-k.ensures)
+pretrigger_of-pretrigger-requires c = (c.requires, date-valid c.args.line.now _ (sym c.in_ok-trigger.ensures))

@@ -5,7 +5,7 @@ use Rattle.row_bytes.proofs.RowLaws.{length-bytes}
 use Rattle.model.proofs.FitLaws.{misfit-le}
 use Rattle.model.proofs.LayoutLaws.{sized}
 use Rattle.model.specs.Layouts.{is_sized, Sized}
-use borrow.Author.Tests.{eq-eqb, ne_eqb, le-leb, lt-leb}
+use borrow.Author.Tests.{eq-eqb, le-leb, lt-leb}
 use native.Mathlib.Omega.{arith}
 use lib.ListN.{length}
 use Prim.Native.Nat.{◌≤◌}
@@ -20,14 +20,6 @@ ok c = sym c.is_sized.ensures ∙ c.if-not-is_sized.false
 
 fit : (c : Else-not-is_sized) → Sized c.args.layout
 fit c = sized c.args.layout (ok c)
-
-pub returns-then-not-is_sized : goal.returns-then-not-is_sized
-unfolding write_said
-returns-then-not-is_sized c = rw (c.refused.ensures, ← c.is_sized.ensures, c.if-not-is_sized.true)
-
-pub returns-then-not-has_row : goal.returns-then-not-has_row
-unfolding write_said
-returns-then-not-has_row c = rw (c.refused-then-not-has_row.ensures, ok (goal.at.returns-then-not-has_row c).Else-not-is_sized, ← c.has_row.ensures, c.if-not-has_row.true)
 
 -- the row is one of the file's
 there : (c : Else-not-has_row) → has_row c.args.layout c.args.n ≡ true
@@ -59,11 +51,6 @@ size : (c : After-row_length-size)
     → c.row_length-size.result ≡ length (bytes_of c.args.layout c.args.n c.args.row)
 size c =
     c.row_length-size.ensures ∙ length-bytes c.args.layout c.args.n c.args.row
-
-pub returns-then-bad-a : goal.returns-then-bad-a
-unfolding write_said
-returns-then-bad-a c =
-    rw (c.refused-then-bad-a.ensures, ok (goal.at.returns-then-bad-a c).Else-not-is_sized, there (goal.at.returns-then-bad-a c).Else-not-has_row, found (goal.at.returns-then-bad-a c).After-first_misfit-bad, ne_eqb _ _ c.if-bad-a.true)
 
 pub returns-then-room-size : goal.returns-then-room-size
 unfolding write_said

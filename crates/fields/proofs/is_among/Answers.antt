@@ -1,18 +1,14 @@
--- `is_among` meets its contract. The loop's invariant: b is among all exactly where it is among those left.
-use mathlib.Core.Path.{refl}
-use native.Mathlib.Omega.{arith}
-use borrow.Author.Tests.{eq-eqb, ne_eqb}
-use Rattle.ground.proofs.Walk.{here, done}
+-- `is_among` meets its contract: `contains` recurses as it does.
+use mathlib.Core.Path.{refl, ◌∙◌}
+use mathlib.Core.Bool.{◌||◌}
+use lib.Dec.{eqb}
+use Rattle.std.specs.List.{list_any}
+use Rattle.std.proofs.lemmas.List.Recursion.{same_from_clauses}
+use Rattle.ground.proofs.Cases.{on_test}
+use Rattle.fields.specs.Fields.{is_among}
 use Rattle.fields.proofs.is_among.Goals as goal
 
-pub loop-i-init : goal.loop-i-init
-loop-i-init c = (omega arith, refl)
-
-pub returns-then-allowed-i : goal.returns-then-allowed-i
-returns-then-allowed-i c = rw (c.loop-i.invariant.1, here _ _ c.loop-i-test.true, eq-eqb _ _ c.if-allowed-i.true)
-
-pub loop-i-preserved : goal.loop-i-preserved
-loop-i-preserved c = (omega arith, rw (c.loop-i.invariant.1, here _ _ c.loop-i-test.true, ne_eqb _ _ c.if-allowed-i.false))
-
 pub returns : goal.returns
-returns c = rw (c.loop-i.invariant.1, done _ _ c.loop-i-test.false)
+returns c =
+    let b = c.args.b in
+    c.contains.ensures.value ∙ same_from_clauses (list_any (λ a. eqb a b)) (is_among b) (λ a r. eqb a b || r) refl (λ _ _. refl) (λ a l. on_test (eqb a b) (λ e. rw e) (λ e. rw e)) c.args.allowed.now

@@ -1,17 +1,8 @@
 -- `read_year` meets its contract.
 use mathlib.Core.Path.{sym, ◌∙◌}
-use Rattle.fields.specs.Fields.{read_year}
 use Rattle.numerals.proofs.CountLaws.{length-bounds}
 use native.Mathlib.Omega.{arith}
 use Rattle.fields.proofs.read_year.Goals as goal
 
-pub returns-then-not-length_in : goal.returns-then-not-length_in
-unfolding read_year
-returns-then-not-length_in c = rw (← c.length_in.ensures, c.if-not-length_in.true)
-
 pub number_of-requires : goal.number_of-requires
 number_of-requires c = omega (arith, length-bounds 4 4 c.args.field.now (sym c.length_in.ensures ∙ c.if-not-length_in.false))
-
-pub returns : goal.returns
-unfolding read_year
-returns c = rw (← c.length_in.ensures, c.if-not-length_in.false, c.number_of.ensures)

@@ -1,6 +1,6 @@
--- `put_rows` meets its contract. The loop's invariant: the lines of the first i rows are put, and the next row, which is fine as are all that follow, begins at `at`; so far there are at most
--- 16 characters for each byte that was passed. The measure is what is left of the rows.
-use mathlib.Core.Path.{◌≡◌, refl, sym, ap, ◌∙◌}
+-- `put_rows` meets its contract. The loop's invariant: the lines of the rows before row i are put, and row i, which is fine as are all that follow, begins at `at`; so far there are at most
+-- 16 characters for each byte that was passed.
+use mathlib.Core.Path.{◌≡◌, sym, ap, ◌∙◌}
 use Prim.Native.Nat.{ℕ, ◌+◌, ◌-◌, ◌*◌, ◌≤◌, ◌<◌}
 use native.Mathlib.Omega.{arith}
 use lib.ListN.{length, take, drop}
@@ -10,25 +10,28 @@ use Rattle.rows.specs.Inner.{taken_here, row_here, HasRow}
 use Rattle.rows.proofs.WalkLaws.{row-here}
 use Rattle.list_lines.specs.Inner.{line_most}
 use Rattle.list_text.specs.Listing.{rows_text}
+use Rattle.pieces.specs.Inner.{Put}
 use Rattle.pieces.proofs.Laws.{put-none, put_then, put_as}
 use Rattle.list_text.proofs.RowLaws.{rows_next, Walked, walked_start, walked_row, walked_next}
 use Rattle.list_text.proofs.put_rows.Goals as goal
-use Rattle.list_text.proofs.put_rows.Goals.{After-taken_here-at, In-loop-i}
+use Rattle.list_text.proofs.put_rows.Goals.{After-put_row_here-to, After-taken_here-at, In-loop-i}
 
 pub loop-i-init : goal.loop-i-init
 unfolding rows_text
-loop-i-init c =
-    (omega arith, refl, omega arith, walked_start c.args.layout c.args.dat.now c.requires.1, put-none c.args.out.now c.args.n)
+loop-i-init c = (omega arith, walked_start c.args.layout c.args.dat.now c.requires.1, put-none c.args.out.now c.args.n)
 
 -- row i has its line, and then comes the next
 on : (c : In-loop-i)
     → let p = c.loop-i in let k = taken_here c.args.layout (drop p.at c.args.dat.now) in
-    (HasRow c.args.layout (drop p.at c.args.dat.now)) × (line_most c.args.layout ≤ 16 * k) × (Walked c.args.layout c.args.dat.now (p.i + 1) (p.at + k))
+    (HasRow c.args.layout (drop p.at c.args.dat.now)) × (line_most c.args.layout ≤ 16 * k) × (Walked c.args.layout c.args.dat.now p.i (p.at + k))
 on c =
     let p = c.loop-i in
-    let h : p.i < c.args.layout.rows = omega arith in
-    let w = walked_next c.args.layout c.args.dat.now c.requires.1 p.i p.at p.invariant.3 h in
-    (walked_row c.args.layout c.args.dat.now c.requires.1 p.i p.at p.invariant.3 h, w.0, w.1)
+    let l = c.args.layout in
+    let s = c.args.dat.now in
+    let h : p.i - 1 < l.rows = omega arith in
+    let e : p.i - 1 + 1 ≡ p.i = omega arith in
+    let w = walked_next l s c.requires.1 (p.i - 1) p.at p.invariant.1 h in
+    (walked_row l s c.requires.1 (p.i - 1) p.at p.invariant.1 h, w.0, rw e at w.1)
 
 pub put_row_here-to-requires : goal.put_row_here-to-requires
 put_row_here-to-requires c =
@@ -40,25 +43,36 @@ takes : (c : After-taken_here-at)
     → c.taken_here-at.result ≡ taken_here c.args.layout (drop c.loop-i.at c.args.dat.now)
 takes c = c.taken_here-at.ensures ∙ rw rest
 
+-- the line of row i is put too
+turn : (c : After-put_row_here-to)
+    → Put c.args.out.now c.args.n (rows_text c.args.layout c.args.dat.now c.loop-i.i) c.put_row_here-to.new.out c.put_row_here-to.result
+turn c =
+    let p = c.loop-i in
+    let l = c.args.layout in
+    let s = c.args.dat.now in
+    let e : p.i - 1 + 1 ≡ p.i = omega arith in
+    let t = take (length s - p.at) (drop p.at s) in
+    let r : row_here l t ≡ row_at l s (p.i - 1) = rw (rest, p.invariant.1.place) (sym (row-here l s (p.i - 1))) in
+    put_as (put_then p.invariant.2 c.put_row_here-to.ensures.put) (rw r (rw e at (rows_next l s (p.i - 1))))
+
 pub overflow_add-at : goal.overflow_add-at
 overflow_add-at c = let w = on (goal.at.overflow_add-at c).In-loop-i in omega (arith, w.2.within, takes (goal.at.overflow_add-at c).After-taken_here-at)
 
 pub loop-i-preserved : goal.loop-i-preserved
 loop-i-preserved c =
     let w = on (goal.at.loop-i-preserved c).In-loop-i in
-    let p = c.loop-i in
     let q = c.put_row_here-to in
-    let t = take (length c.args.dat.now - p.at) (drop p.at c.args.dat.now) in
-    let r : row_here c.args.layout t ≡ row_at c.args.layout c.args.dat.now p.i = rw (rest, p.invariant.3.place) (sym (row-here c.args.layout c.args.dat.now p.i)) in (
-      omega arith,
-      q.auto.out ∙ p.invariant.1,
-      omega (arith, q.ensures.upper_bound, w.1, takes (goal.at.loop-i-preserved c).After-taken_here-at),
-      rw (takes (goal.at.loop-i-preserved c).After-taken_here-at) w.2,
-      put_as (put_then p.invariant.4 q.ensures.put) (rw r (rows_next c.args.layout c.args.dat.now p.i)),
+    let k = takes (goal.at.loop-i-preserved c).After-taken_here-at in
+    let e : c.loop-i.i + 1 - 1 ≡ c.loop-i.i = omega arith in (
+      omega (arith, q.ensures.upper_bound, w.1, k),
+      rw (e, k) w.2,
+      rw e (turn (goal.at.loop-i-preserved c).After-put_row_here-to),
     )
 
 pub returns : goal.returns
-returns c =
-    let p = c.loop-i in
-    let e : p.i ≡ c.args.layout.rows = omega arith in
-    put_as p.invariant.4 (ap (λ (k : ℕ). rows_text c.args.layout c.args.dat.now k) e)
+returns c = absurd (omega arith)
+
+pub returns-2 : goal.returns-2
+returns-2 c =
+    let e : c.loop-i.i ≡ c.args.layout.rows = omega arith in
+    put_as (turn (goal.at.returns-2 c).After-put_row_here-to) (ap (λ (k : ℕ). rows_text c.args.layout c.args.dat.now k) e)

@@ -6,7 +6,4 @@ use Rattle.numerals.specs.Counts.{digits_from}
 use Rattle.numerals.proofs.run_digits.Given as goal
 
 abbrev pub invariant-loop-i : goal.invariant-loop-i
-invariant-loop-i l = (l.at ≤ l.i) × (l.i ≤ l.lim) × (l.value < 10 ^ (l.i - l.at)) × ((e : ℕ) → l.i ≤ e → e ≤ l.lim → digits_from 0 (part l.at e l.s) ≡ digits_from l.value (part l.i e l.s))
-
-abbrev pub decreases-loop-i : goal.decreases-loop-i
-decreases-loop-i l = l.lim - l.i
+invariant-loop-i l = (l.value < 10 ^ (l.i - l.at)) × ((e : ℕ) → l.i ≤ e → e ≤ l.lim → digits_from 0 (part l.at e l.s) ≡ digits_from l.value (part l.i e l.s))

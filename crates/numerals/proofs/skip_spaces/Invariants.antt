@@ -6,7 +6,4 @@ use Rattle.numerals.specs.Counts.{leading_spaces}
 use Rattle.numerals.proofs.skip_spaces.Given as goal
 
 abbrev pub invariant-loop-i : goal.invariant-loop-i
-invariant-loop-i l = (l.at ≤ l.i) × (l.i ≤ l.lim) × ((e : ℕ) → l.i ≤ e → e ≤ l.lim → leading_spaces (part l.at e l.s) ≡ l.i - l.at + leading_spaces (part l.i e l.s))
-
-abbrev pub decreases-loop-i : goal.decreases-loop-i
-decreases-loop-i l = l.lim - l.i
+invariant-loop-i l = (e : ℕ) → l.i ≤ e → e ≤ l.lim → leading_spaces (part l.at e l.s) ≡ l.i - l.at + leading_spaces (part l.i e l.s)

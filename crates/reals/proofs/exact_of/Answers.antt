@@ -1,7 +1,6 @@
 -- `exact_of` meets its contract.
 use native.Mathlib.Omega.{arith}
 use lib.ListN.{length-take}
-use Rattle.reals.specs.Exact.{exact_of}
 use Rattle.reals.proofs.FormLaws.{mantissa-within}
 use Rattle.reals.proofs.LimitLaws.{places-within}
 use Rattle.reals.proofs.exact_of.Goals as goal
@@ -9,12 +8,5 @@ use Rattle.reals.proofs.exact_of.Goals as goal
 pub slice_bounds-digits_of-end : goal.slice_bounds-digits_of-end
 slice_bounds-digits_of-end c = rw length-take (omega (arith, c.mantissa_length-m.ensures, mantissa-within c.args.s.now))
 
-pub digits_of-requires : goal.digits_of-requires
-digits_of-requires c = rw length-take (omega (arith, c.requires.0))
-
 pub overflow_sub-result : goal.overflow_sub-result
 overflow_sub-result c = omega (arith, c.decimal_places-p.ensures, places-within c.args.s.now, c.requires)
-
-pub returns : goal.returns
-unfolding exact_of
-returns c = rw (c.digits_of.ensures, c.decimal_places-p.ensures, c.mantissa_length-m.ensures)

@@ -1,14 +1,8 @@
 -- `read_limit` meets its contract.
 use mathlib.Core.Path.{sym, ◌∙◌}
 use lib.Dec.{lit≤}
-use Rattle.ground.proofs.Walk.{rest}
 use Rattle.numerals.proofs.CountLaws.{length-left, spaces-within}
-use Rattle.reals.specs.Exact.{read_limit}
 use Rattle.reals.proofs.read_limit.Goals as goal
-
-pub returns-then-not-length_in : goal.returns-then-not-length_in
-unfolding read_limit
-returns-then-not-length_in c = rw (← c.length_in.ensures, c.if-not-length_in.true)
 
 pub slice_bounds-signed_limit-count : goal.slice_bounds-signed_limit-count
 slice_bounds-signed_limit-count c = rw c.leading_spaces-n.ensures (spaces-within c.args.field.now)
@@ -21,9 +15,3 @@ signed_limit-requires c =
     let long = c.length_in in
     length-left 1 13 13 c.args.field.now c.leading_spaces-n.result
     (sym long.ensures ∙ c.if-not-length_in.false) (lit≤ tt)
-
-pub returns : goal.returns
-unfolding read_limit
-returns c =
-    let long = c.length_in in
-    rw (c.signed_limit.ensures, rest, ← long.ensures, c.if-not-length_in.false, ← c.leading_spaces-n.ensures)

@@ -1,7 +1,5 @@
 -- `signed_exponent` meets its contract.
-use Rattle.ground.proofs.Walk.{rest}
 use Rattle.numerals.proofs.CountLaws.{sign-within}
-use Rattle.reals.specs.Forms.{signed_exponent}
 use Rattle.reals.proofs.FormLaws.{short-below}
 use Rattle.reals.proofs.signed_exponent.Goals as goal
 
@@ -13,7 +11,3 @@ slice_bounds-short_number-start c = slice_bounds-short_number-count c
 
 pub raised_by-requires : goal.raised_by-requires
 raised_by-requires c = rw c.short_number-size.ensures (short-below _)
-
-pub returns : goal.returns
-unfolding signed_exponent
-returns c = rw (c.raised_by.ensures, c.has_minus.ensures, c.short_number-size.ensures, rest, c.sign_length-n.ensures)

@@ -1,7 +1,5 @@
 -- `signed_real` meets its contract.
-use Rattle.ground.proofs.Walk.{rest}
 use Rattle.numerals.proofs.CountLaws.{sign-within}
-use Rattle.reals.specs.Forms.{signed_real}
 use Rattle.reals.proofs.signed_real.Goals as goal
 
 pub slice_bounds-real_sign-count : goal.slice_bounds-real_sign-count
@@ -9,7 +7,3 @@ slice_bounds-real_sign-count c = rw c.sign_length-n.ensures (sign-within c.args.
 
 pub slice_bounds-real_sign-start : goal.slice_bounds-real_sign-start
 slice_bounds-real_sign-start c = slice_bounds-real_sign-count c
-
-pub returns : goal.returns
-unfolding signed_real
-returns c = rw (c.real_sign.ensures, c.has_minus.ensures, rest, c.sign_length-n.ensures)

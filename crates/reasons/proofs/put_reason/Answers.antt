@@ -4,15 +4,9 @@ use mathlib.Core.Logic.{◌⊎◌, inl, inr}
 use Prim.Native.Nat.{◌+◌, ◌-◌, ◌<◌}
 use native.Mathlib.Omega.{arith}
 use lib.ListN.{length}
-use Rattle.reasons.specs.Reasons.{reason_of}
-use Rattle.reasons.specs.Inner.{reason_text, reason_texts}
 use Rattle.reasons.proofs.Laws.{reason-told, reason-untold}
 use Rattle.reasons.proofs.put_reason.Goals as goal
 use Rattle.reasons.proofs.put_reason.Goals.{in_default-via-then-number-lt1, in_default-via-else-number-lt1+else-number-lt18}
-
-pub say_from-requires : goal.say_from-requires
-unfolding reason_texts reason_text reason_of
-say_from-requires c = (refl, omega arith)
 
 pub returns-in-1-to-17 : goal.returns-in-1-to-17
 returns-in-1-to-17 c =

@@ -1,5 +1,4 @@
--- `recode::fit_rows` meets its contract. The loop's invariant: the rows from i on say what all rows say. The measure is what is left of the rows.
-use borrow.Author.Rules.{rules}
+-- `recode::fit_rows` meets its contract. The loop's invariant: the rows from i on say what all rows say.
 use lib.Dec.{eqb}
 use native.Mathlib.Omega.{arith}
 use mathlib.Core.Path.{◌≡◌, sym, ◌∙◌}
@@ -19,7 +18,7 @@ use Rattle.recode.proofs.fit_rows.Goals as goal
 use Rattle.recode.proofs.fit_rows.Goals.{After-row_misfit-bad, In-loop-i}
 
 pub loop-i-init : goal.loop-i-init
-loop-i-init c = (search rules, rw sub-zero)
+loop-i-init c = rw sub-zero
 
 -- row i lies within the file
 room : (c : In-loop-i)
@@ -57,7 +56,7 @@ step : (c : After-row_misfit-bad)
     ≡ fit_from c.args.layout c.args.new c.args.«data».now 0 c.args.layout.rows
 step c =
     let p = c.loop-i in
-    rw (found c) (sym (fit-turn c.args.layout c.args.new c.args.«data».now p.i c.args.layout.rows (omega arith)) ∙ p.invariant.1)
+    rw (found c) (sym (fit-turn c.args.layout c.args.new c.args.«data».now p.i c.args.layout.rows (omega arith)) ∙ p.invariant)
 
 pub overflow_cast-bad : goal.overflow_cast-bad
 overflow_cast-bad c = omega (arith, few (goal.at.overflow_cast-bad c).After-row_misfit-bad, c.requires.0.analogs)
@@ -71,10 +70,10 @@ returns-then-bad-a c =
 
 pub loop-i-preserved : goal.loop-i-preserved
 loop-i-preserved c =
-    (omega arith, rw (eq-eqb c.row_misfit-bad.result c.args.layout.analogs c.if-bad-a.false) at (step (goal.at.loop-i-preserved c).After-row_misfit-bad))
+    rw (eq-eqb c.row_misfit-bad.result c.args.layout.analogs c.if-bad-a.false) at (step (goal.at.loop-i-preserved c).After-row_misfit-bad)
 
 pub returns : goal.returns
 unfolding fit_from
 returns c =
     let e : c.args.layout.rows - c.loop-i.i ≡ 0 = omega arith in
-    rw (← c.loop-i.invariant.1, e, fit_from)
+    rw (← c.loop-i.invariant, e, fit_from)

@@ -1,8 +1,7 @@
--- `recode::recode_rows` meets its contract. The loop's invariant: the slice begins with i rows, and the rest is as it was. The measure is what is left of the rows.
+-- `recode::recode_rows` meets its contract. The loop's invariant: the slice begins with i rows, and the rest is as it was.
 use Rattle.ground.proofs.Parts.{length_part}
-use borrow.Author.Rules.{rules}
 use native.Mathlib.Omega.{arith}
-use mathlib.Core.Path.{◌≡◌, refl, sym, ◌∙◌}
+use mathlib.Core.Path.{◌≡◌, sym, ◌∙◌}
 use Prim.Native.Nat.{◌+◌, ◌*◌, ◌<◌, ◌≤◌}
 use lib.ListN.{length}
 use native.Mathlib.Nat.{zero-mul}
@@ -27,7 +26,7 @@ row_size-fresh-requires c =
     rw c.in_kind.ensures (sized-in c.args.new c.args.layout c.requires.sized.0)
 
 pub loop-i-init : goal.loop-i-init
-loop-i-init c = (search rules, refl, rw zero-mul)
+loop-i-init c = rw zero-mul
 
 -- the file's length, and the new row's size
 long : (c : Start) → length c.args.«data».now ≡ c.args.layout.rows * row_size c.args.layout
@@ -47,7 +46,8 @@ new-room : (c : In-loop-i) → c.row_size-fresh.result ≡ row_size (in_kind c.a
     → let n = c.row_size-fresh.result in c.loop-i.i * n + n ≤ length c.loop-i.d
 new-room c size =
     let p = c.loop-i in
-    rw (p.invariant.1, c.requires.d_len.0, ← size) (block-end p.i c.args.layout.rows c.row_size-fresh.result (omega arith))
+    let e : length p.d ≡ length c.args.d.now = omega arith in
+    rw (e, c.requires.d_len.0, ← size) (block-end p.i c.args.layout.rows c.row_size-fresh.result (omega arith))
 
 pub overflow_mul-from : goal.overflow_mul-from
 overflow_mul-from c = omega (arith, room (goal.at.overflow_mul-from c).In-loop-i)
@@ -101,12 +101,12 @@ loop-i-preserved c =
     let y : ys ≡ binary_of (in_kind m l) (p.i + 1) (binary_row l p.i s) = put.ensures ∙ rw c.row_size-size.ensures in
     let t =
     cat-turn (λ j. binary_of (in_kind m l) (j + 1) (binary_row l j s)) w (λ j. length-row (in_kind m l) (j + 1) (binary_row l j s) ∙ sym e)
-    c.args.d.now p.d ys p.i p.invariant.1 p.invariant.2 (new-room (goal.at.loop-i-preserved c).In-loop-i (size (goal.at.loop-i-preserved c).After-row_size-fresh)) y in
-    (omega arith, t.0, t.1)
+    c.args.d.now p.d ys p.i (omega arith) p.invariant (new-room (goal.at.loop-i-preserved c).In-loop-i (size (goal.at.loop-i-preserved c).After-row_size-fresh)) y in
+    t.1
 
 pub returns : goal.returns
 unfolding recoded_file
 returns c =
     let e : c.loop-i.i ≡ c.args.layout.rows = omega arith in
     let n : length c.args.d.now ≡ c.args.layout.rows * c.row_size-fresh.result = c.requires.d_len.0 ∙ rw (size (goal.at.returns c).After-row_size-fresh) in
-    c.loop-i.invariant.2 ∙ rw (e, ← n, drop-length, append-nil)
+    c.loop-i.invariant ∙ rw (e, ← n, drop-length, append-nil)

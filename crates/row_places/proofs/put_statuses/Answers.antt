@@ -1,20 +1,17 @@
--- `row_places::put_statuses` meets its contract. The loop's invariant: the first i places have their statuses, and the rest is as it was. The measure is what is left of the slice.
+-- `row_places::put_statuses` meets its contract. The loop's invariant: the first i places have their statuses, and the rest is as it was.
 use Rattle.ground.proofs.FillLaws.{fill-next, filled}
 use mir.Syntax.{w64}
 use mathlib.Core.Bool.{false}
 use Rattle.row_places.specs.Rows.{bool_place}
 use mir.ValLaws.{to_z-of_z}
 use native.Mathlib.Omega.{arith}
-use lib.ListN.{get_or, length-set}
+use lib.ListN.{get_or}
 use mathlib.Core.Path.{◌∙◌}
 use Rattle.row_places.proofs.put_statuses.Goals as goal
 
-pub loop-i-smaller : goal.loop-i-smaller
-loop-i-smaller c = simp length-set (omega arith)
-
 pub loop-i-preserved : goal.loop-i-preserved
 loop-i-preserved c =
-    fill-next (λ i. bool_place (get_or c.args.s.now i false)) c.args.d.now c.loop-i.d c.loop-i.i c.loop-i.invariant _ c.loop-i-test.true
+    fill-next (λ i. bool_place (get_or c.args.s.now i false)) c.args.d.now c.loop-i.d c.loop-i.i c.loop-i.invariant _ (omega arith)
     (to_z-of_z w64 c.bool_place.result (record { sfits = c.bool_place.type_inv }) ∙ c.bool_place.ensures)
 
 pub shape_of-d : goal.shape_of-d

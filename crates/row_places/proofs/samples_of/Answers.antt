@@ -1,4 +1,4 @@
--- `row_places::samples_of` meets its contract. The loop's invariant: the first i places have their samples, and the rest is zero. The measure is what is left of the places.
+-- `row_places::samples_of` meets its contract. The loop's invariant: the first i places have their samples, and the rest is zero.
 use mathlib.Core.Path.{◌≡◌, ◌∙◌}
 use native.Mathlib.Omega.{arith}
 use lib.IntN.{pos}
@@ -20,7 +20,7 @@ loop-i-preserved c =
     let i = c.loop-i.i in
     let z = c.place_sample in
     let read = to_z-of_z w64 (get_or zs i (pos 0)) (record { sfits = c.place_sample-arg-1.given }) in
-    (omega arith, rw (to_z-of_z w32 z.result (record { sfits = z.type_inv }), z.ensures, read, c.loop-i.invariant.1) (padded-set (λ i. place_sample (get_or zs i (pos 0))) i 96 (pos 0) (omega arith)))
+    rw (to_z-of_z w32 z.result (record { sfits = z.type_inv }), z.ensures, read, c.loop-i.invariant) (padded-set (λ i. place_sample (get_or zs i (pos 0))) i 96 (pos 0) (omega arith))
 
 pub returns : goal.returns
-returns c = let e : c.loop-i.i ≡ length c.args.zs.now = omega arith in c.loop-i.invariant.1 ∙ rw e
+returns c = let e : c.loop-i.i ≡ length c.args.zs.now = omega arith in c.loop-i.invariant ∙ rw e

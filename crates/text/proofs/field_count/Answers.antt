@@ -1,28 +1,19 @@
--- `text::field_count` meets its contract. The loop's invariant: the fields are n and the commas that are left at i, and n is at most i + 1.
+-- `text::field_count` meets its contract: the commas are those that the chain counts.
 -- Assumes nothing.
+use Rattle.std.specs.Prelude.{count_by}
+use Rattle.std.proofs.lemmas.List.Recursion.{is_count_by}
+use mathlib.Core.Path.{◌≡◌, refl}
 use native.Mathlib.Omega.{arith}
-use borrow.Author.Tests.{eq-eqb, ne_eqb}
-use Rattle.ground.proofs.Walk.{here, done}
-use Rattle.text.specs.Fields.{field_count}
+use borrow.Author.Rules.{rules}
+use lib.Dec.{eqb}
+use Rattle.ground.proofs.Cases.{on_test}
+use Rattle.text.specs.Fields.{commas, field_count}
 use Rattle.text.proofs.field_count.Goals as goal
 
-pub loop-i-init : goal.loop-i-init
-unfolding field_count
-loop-i-init c = omega arith
-
-pub loop-i-preserved-then-b-eq44 : goal.loop-i-preserved-then-b-eq44
-loop-i-preserved-then-b-eq44 c = (
-  omega arith,
-  omega arith,
-  rw (c.loop-i.invariant.2, here _ _ c.loop-i-test.true, eq-eqb _ _ c.if-b-eq44.true) (omega arith),
-)
-
-pub loop-i-preserved : goal.loop-i-preserved
-loop-i-preserved c = (
-  omega arith,
-  omega arith,
-  rw (c.loop-i.invariant.2, here _ _ c.loop-i-test.true, ne_eqb _ _ c.if-b-eq44.false) (omega arith),
-)
-
 pub returns : goal.returns
-returns c = rw (c.loop-i.invariant.2, done _ _ c.loop-i-test.false) (omega arith)
+unfolding field_count
+returns c =
+    let l = c.args.line.now in
+    let n : c.count.result ≡ count_by (λ b. eqb b 44) l = search rules in
+    let m = is_count_by commas (λ b. eqb b 44) refl (λ b l. on_test (eqb b 44) (λ e. rw e (omega arith)) (λ e. rw e)) l in
+    omega arith

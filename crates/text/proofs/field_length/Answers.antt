@@ -1,26 +1,24 @@
--- `text::field_length` meets its contract. The loop's invariant: the first field has i bytes and those of the first field of what is left at i.
+-- `text::field_length` meets its contract: its recursion is that of the place of the first comma.
 -- Assumes nothing.
+use mathlib.Core.Path.{refl, ◌∙◌}
 use native.Mathlib.Omega.{arith}
-use borrow.Author.Tests.{eq-eqb, ne_eqb}
-use Rattle.ground.proofs.Walk.{here, done}
+use borrow.Author.Rules.{rules}
+use borrow.Author.Tests.{tests, ltb-false}
+use lib.Dec.{eqb, ltb}
+use lib.ListN.{length}
+use Rattle.std.proofs.lemmas.Iterator.{YieldsList-from_slice}
+use Rattle.std.proofs.lemmas.Iterator.Search.{position_from_yields_List}
+use Rattle.std.proofs.lemmas.List.Recursion.{is_position_or_len}
+use Rattle.ground.proofs.Cases.{on_test}
+use Rattle.text.specs.Fields.{field_length}
+use Rattle.text.proofs.FieldLaws.{field-within}
 use Rattle.text.proofs.field_length.Goals as goal
 
-pub loop-i-init : goal.loop-i-init
-loop-i-init c = omega arith
-
-pub returns-then-line-i-eq44 : goal.returns-then-line-i-eq44
-returns-then-line-i-eq44 c =
-    rw (
-      c.loop-i.invariant.1,
-      here _ _ c.loop-i-test.true,
-      eq-eqb _ _ c.if-line-i-eq44.true,
-    ) (omega arith)
-
-pub loop-i-preserved : goal.loop-i-preserved
-loop-i-preserved c = (
-  omega arith,
-  rw (c.loop-i.invariant.1, here _ _ c.loop-i-test.true, ne_eqb _ _ c.if-line-i-eq44.false) (omega arith),
-)
-
 pub returns : goal.returns
-returns c = rw (c.loop-i.invariant.1, done _ _ c.loop-i-test.false) (omega arith)
+returns c =
+    let l = c.args.line.now in
+    let m = is_position_or_len field_length (λ b. eqb b 44) refl (λ b l. on_test (eqb b 44) (λ e. rw e) (λ e. rw e (omega arith))) l in
+    let p = position_from_yields_List (λ b. eqb b 44) _ _ c.position.result c.position.ensures.ran (YieldsList-from_slice l cc) (λ x b q k. search (rules, tests)) in
+    c.unwrap_or.ensures
+    ∙ rw (p, ← m)
+    (on_test (ltb (field_length l) (length l)) (λ e. rw e) (λ e. rw e (omega (arith, ltb-false (field_length l) (length l) e, field-within l))))

@@ -1,41 +1,25 @@
--- `words::put_word` meets its contract. The loop's invariant: the first i bytes are those of n, the rest is as it was, and m is n without
--- its i low bytes. The measure is what is left of the slice.
-use mathlib.Core.Path.{◌≡◌, refl, sym, ◌∙◌}
-use mathlib.Core.List.{append-nil}
+-- `words::put_word` meets its contract. The loop's invariant: the bytes before the place are those of n, the rest is as it was, and m is n
+-- without as many low bytes.
+use mathlib.Core.Path.{sym}
 use native.Mathlib.Nat.{div-one, div-div-eq-div-mul, pow-suc}
 use native.Mathlib.Numerals.{add-one}
-use borrow.Author.Rules.{rules}
 use native.Mathlib.Omega.{arith}
-use lib.ListN.{length, length-set}
-use lib.Seq.{drop-length}
+use borrow.Author.Rules.{rules}
 use Rattle.ground.proofs.Tables.{tab-set}
 use Rattle.words.specs.Words.{byte_of, word_bytes}
 use Rattle.words.proofs.put_word.Goals as goal
 
-pub loop-i-init : goal.loop-i-init
+pub loop-x-init : goal.loop-x-init
 unfolding word_bytes
-loop-i-init c = (search rules, refl, sym (div-one c.args.n), refl)
+loop-x-init c = (sym (div-one c.args.n), search rules)
 
-pub overflow_add-i : goal.overflow_add-i
-overflow_add-i c = omega arith
-
-pub loop-i-smaller : goal.loop-i-smaller
-loop-i-smaller c = simp length-set (omega arith)
-
-pub loop-i-preserved : goal.loop-i-preserved
+pub loop-x-preserved : goal.loop-x-preserved
 unfolding word_bytes
-loop-i-preserved c =
-    let i = c.loop-i.i in
-    let inv = c.loop-i.invariant in
+loop-x-preserved c =
+    let i = c.loop-x.x-index in
+    let inv = c.loop-x.invariant in
     let d₀ = c.args.d.now in
     let n = c.args.n in (
-      omega arith,
-      simp length-set inv.1,
-      rw (inv.2, div-div-eq-div-mul, add-one, pow-suc),
-      rw (inv.2, inv.3) (tab-set (byte_of n) d₀ i (omega arith)),
+      rw (inv.0, div-div-eq-div-mul, add-one, pow-suc),
+      rw (inv.0, inv.1) (tab-set (byte_of n) d₀ i (omega arith)),
     )
-
-pub returns : goal.returns
-returns c =
-    let e : c.loop-i.i ≡ length c.args.d.now = omega arith in
-    c.loop-i.invariant.3 ∙ rw (e, drop-length, append-nil)

@@ -1,12 +1,9 @@
--- `words::word_of` meets its contract. The loop's invariant: v is what the bytes from i on hold. The measure is i.
+-- `words::word_of` meets its contract. The loop's invariant: v is what the bytes that were read hold.
 use mathlib.Core.Path.{◌≡◌}
-use Prim.Native.Nat.{◌≤◌}
+use Prim.Native.Nat.{◌≤◌, ◌-◌}
 use lib.ListN.{length, drop}
 use Rattle.words.specs.Words.{word_of}
 use Rattle.words.proofs.word_of.Given as goal
 
-abbrev pub invariant-loop-i : goal.invariant-loop-i
-invariant-loop-i l = (l.i ≤ length l.s) × (l.v ≡ word_of (drop l.i l.s))
-
-abbrev pub decreases-loop-i : goal.decreases-loop-i
-decreases-loop-i l = l.i
+abbrev pub invariant-loop-b : goal.invariant-loop-b
+invariant-loop-b l = (length l.yielded ≤ length l.s) × (l.v ≡ word_of (drop (length l.s - length l.yielded) l.s))

@@ -1,8 +1,6 @@
 -- `day_number` meets its contract: the days of 9999 years fit.
-use Rattle.words.proofs.MachineLaws.{read_back}
 use native.Mathlib.Omega.{arith}
 use Prim.Native.Nat.{◌-◌, ◌+◌, ◌<◌}
-use Rattle.clock.specs.Dates.{day_number}
 use Rattle.clock.proofs.DateLaws.{date-bounds, month-between, months-at-most, years-at-most}
 use Rattle.clock.proofs.dates.day_number.Goals as goal
 use Rattle.clock.proofs.dates.day_number.Goals.{After-days_of_months-months}
@@ -32,9 +30,3 @@ overflow_add-years c = omega (arith, few c)
 pub overflow_add-years-2 : goal.overflow_add-years-2
 overflow_add-years-2 c =
     omega (arith, few (goal.at.overflow_add-years-2 c).After-days_of_months-months, date-bounds c.args.date c.requires, month-between c.args.date.year c.args.date.month)
-
-pub returns : goal.returns
-unfolding day_number
-returns c =
-    let p = c.plus in
-    rw (read_back p.result p.type_inv, p.ensures, c.days_of_years-years.ensures, c.days_of_months-months.ensures)

@@ -1,6 +1,5 @@
 -- `second_number` meets its contract: the seconds of all days fit.
 use mathlib.Core.Path.{◌≡◌}
-use borrow.Author.Rules.{rules}
 use Prim.Native.Nat.{◌<◌, ◌^◌}
 use lib.IntN.{ℤ, pos, ◌+ℤ◌, ◌*ℤ◌}
 use lib.Signed.{mag}
@@ -28,9 +27,6 @@ seconds c =
 
 pub overflow_mul-result : goal.overflow_mul-result
 overflow_mul-result c = rw (days c.args.date c.day_number.result c.day_number.type_inv c.day_number.ensures) (days-fit c.args.date c.requires.0)
-
-pub second_of_day-requires : goal.second_of_day-requires
-second_of_day-requires c = search rules
 
 pub overflow_add-result : goal.overflow_add-result
 overflow_add-result c =

@@ -1,44 +1,26 @@
--- `fraction_of` meets its contract. The loop's invariant: n has k - 9 digits, and scaled from k to 18 places it is the fraction.
-use mathlib.Core.Path.{◌≡◌, ◌∙◌}
-use Prim.Native.Nat.{◌+◌, ◌-◌}
+-- `fraction_of` meets its contract: the digits and the power of ten have 9 digits together.
+use mathlib.Core.Path.{◌≡◌, sym, ◌∙◌}
+use Prim.Native.Nat.{◌+◌, ◌-◌, ◌*◌, ◌^◌, ◌<◌}
+use native.Mathlib.Nat.{mul-lt-mul_of_pos_right, one-le-pow}
+use Rattle.std.proofs.lemmas.Nat.{pow-add}
 use native.Mathlib.Omega.{arith}
+use lib.Dec.{lit<}
 use lib.ListN.{length}
 use Rattle.clock.specs.Times.{fraction_of}
-use Rattle.numerals.proofs.Tens.{more, cap}
 use Rattle.patterns.proofs.PatternLaws.{digits_lt}
-use Rattle.clock.proofs.TimeLaws.{fraction-turn}
 use Rattle.clock.proofs.times.fraction_of.Goals as goal
 
-pub loop-k-init : goal.loop-k-init
-unfolding fraction_of
-loop-k-init c =
+pub overflow_mul-result : goal.overflow_mul-result
+overflow_mul-result c =
     let s = c.args.s.now in
-    let e = c.digits_at-n.ensures in
-    (omega arith, omega arith, rw e (digits_lt 9 (length s) (length s - 9) s (omega arith)), rw e)
-
-pub overflow_mul-n : goal.overflow_mul-n
-overflow_mul-n c =
-    let l = c.loop-k in
-    omega (arith, cap 8 (l.k - 9) l.n (omega arith) l.invariant.2)
-
-pub overflow_add-k : goal.overflow_add-k
-overflow_add-k c = omega arith
-
-pub loop-k-smaller : goal.loop-k-smaller
-loop-k-smaller c = omega arith
-
-pub loop-k-preserved : goal.loop-k-preserved
-loop-k-preserved c =
-    let l = c.loop-k in
-    let e : l.k + 1 - 9 ≡ l.k - 9 + 1 = omega arith in (
-      omega arith,
-      omega arith,
-      rw e (omega (arith, more (l.k - 9) l.n 0 l.invariant.2 (omega arith))),
-      fraction-turn l.n l.k c.loop-k-test.true ∙ l.invariant.3,
-    )
+    let k = length s - 9 in
+    let j = 18 - length s in
+    let e : k + j ≡ 9 = omega arith in
+    let n : c.digits_at-n.result < 10 ^ k = rw c.digits_at-n.ensures (digits_lt 9 (length s) k s (omega arith)) in
+    let p : c.digits_at-n.result * 10 ^ j < 10 ^ k * 10 ^ j = mul-lt-mul_of_pos_right n (one-le-pow j 10 (lit< tt)) in
+    let q : 10 ^ k * 10 ^ j ≡ 10 ^ 9 = sym (pow-add 10 k j) ∙ rw e in
+    rw c.pow.ensures (omega (arith, p, q))
 
 pub returns : goal.returns
-returns c =
-    let e : c.loop-k.k ≡ 18 = omega arith in
-    let q = rw e at c.loop-k.invariant.3 in
-    omega arith
+unfolding fraction_of
+returns c = rw (c.digits_at-n.ensures, c.pow.ensures)

@@ -1,7 +1,5 @@
 -- `second_of_day` meets its contract.
-use mathlib.Core.Path.{refl}
 use native.Mathlib.Omega.{arith}
-use Rattle.clock.specs.Times.{second_of_day}
 use Rattle.clock.proofs.TimeLaws.{time-bounds}
 use Rattle.clock.proofs.times.second_of_day.Goals as goal
 
@@ -16,7 +14,3 @@ overflow_add-result c = omega (arith, time-bounds c.args.time c.requires)
 
 pub overflow_add-result-2 : goal.overflow_add-result-2
 overflow_add-result-2 c = omega (arith, time-bounds c.args.time c.requires)
-
-pub returns : goal.returns
-unfolding second_of_day
-returns c = refl

@@ -3,14 +3,9 @@ use Prim.Native.Nat.{◌≤◌}
 use lib.ListN.{length, length-take}
 use mathlib.Core.Path.{sym, ◌∙◌}
 use native.Mathlib.Omega.{arith}
-use Rattle.clock.specs.Times.{time_form}
 use Rattle.numerals.proofs.CountLaws.{length-bounds}
 use Rattle.clock.proofs.times.time_form.Goals as goal
 use Rattle.clock.proofs.times.time_form.Goals.{Else-not-length_in}
-
-pub returns-then-not-length_in : goal.returns-then-not-length_in
-unfolding time_form
-returns-then-not-length_in c = rw (← c.length_in.ensures, c.if-not-length_in.true)
 
 -- the pattern is long enough
 short : (c : Else-not-length_in) → length c.args.s.now ≤ 18
@@ -21,9 +16,3 @@ slice_bounds-pattern-end c = short (goal.at.slice_bounds-pattern-end c).Else-not
 
 pub slice_bounds-fits_pattern-end : goal.slice_bounds-fits_pattern-end
 slice_bounds-fits_pattern-end c = simp length-take (omega (arith, short (goal.at.slice_bounds-fits_pattern-end c).Else-not-length_in))
-
-pub returns : goal.returns
-unfolding time_form
-returns c =
-    let l = c.length_in in
-    rw (← l.ensures, c.if-not-length_in.false, c.fits_pattern.ensures)

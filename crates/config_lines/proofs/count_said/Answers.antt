@@ -1,5 +1,0 @@
--- `count_said` meets its contract.
-use Rattle.config_lines.proofs.count_said.Goals as goal
-
-pub returns : goal.returns
-returns c = rw c.at.ensures

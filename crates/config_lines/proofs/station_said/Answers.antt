@@ -1,5 +1,0 @@
--- `station_said` meets its contract.
-use Rattle.config_lines.proofs.station_said.Goals as goal
-
-pub returns : goal.returns
-returns c = rw c.at.ensures

@@ -9,7 +9,7 @@ use Rattle.model.specs.declared.Layout.{Layout}
 use Rattle.model.specs.declared.Refusal.{Refusal}
 use Rattle.model.specs.Kinds.{kind_of}
 use Rattle.model.specs.Editions.{edition_of}
-use Rattle.model.specs.Refusals.{refused}
+use Rattle.model.specs.Refusals.{refused, reason_number}
 use Rattle.answers.specs.declared.zl_answer.{zl_answer}
 
 -- yes, with so many bytes
@@ -18,7 +18,7 @@ yes m = record { number = 0; at = 0; field = 0; length = m }
 
 -- no: the refusal's number and place
 abbrev pub no : Refusal → zl_answer
-no r = record { number = r.number; at = r.at; field = r.field; length = 0 }
+no r = record { number = reason_number r.reason; at = r.at; field = r.field; length = 0 }
 
 -- the answer of a call that has a length
 abbrev pub told : Said Refusal ℕ → zl_answer

@@ -35,7 +35,7 @@ pub fn no(refusal: Refusal) -> zl_answer
     ensures { result ≡ no refusal }
 {
     zl_answer {
-        number: refusal.number,
+        number: refusal.reason.number(),
         at: refusal.at,
         field: refusal.field,
         length: 0,

@@ -7,7 +7,7 @@ ghost use Rattle.ground.specs.Said.{answer_of};
 ghost use Rattle.model.specs.Layouts.{Sized};
 ghost use Rattle.ascii_file.specs.Files.{scan_row, take_row, is_ending, check_end, check_text, line_taken, first_line, after_rows, text_row};
 
-use model::{Layout, Refusal, Row};
+use model::{Layout, Reason, Refusal, Row};
 use text::LineError;
 
 // The most bytes of a row before its line end.
@@ -24,8 +24,8 @@ fn check_in_order(layout: Layout, n: u32, rest: &[u8]) -> Result<usize, Refusal>
             ascii_row::check_line(layout, n, &rest[..line.len])?;
             Ok(line.taken)
         }
-        Err(LineError::Ends) => Err(model::refused(11, n, 0)),
-        Err(LineError::Bad) => Err(model::refused(14, n, 0)),
+        Err(LineError::Ends) => Err(model::refused(Reason::FileLength, n, 0)),
+        Err(LineError::Bad) => Err(model::refused(Reason::BadText, n, 0)),
     }
 }
 
@@ -69,7 +69,7 @@ pub fn check_end(n: u32, rest: &[u8]) -> Result<(), Refusal>
     ensures { result ≡ answer_of (check_end n rest.now) }
 {
     if !is_ending(rest) {
-        return Err(model::refused(11, n, 0));
+        return Err(model::refused(Reason::FileLength, n, 0));
     }
     Ok(())
 }

@@ -11,7 +11,7 @@ ghost use Rattle.model.specs.Layouts.{Sized};
 ghost use Rattle.ascii_row.specs.Fields.{read_timestamp, read_sample, is_status, is_count, is_whole, time_in, sample_in, status_in};
 ghost use Rattle.ascii_row.specs.Rows.{field_fine, check_fields, check_number, check_line, field_sample, field_status, row_of};
 
-use model::{Layout, Refusal, Row};
+use model::{Layout, Reason, Refusal, Row};
 
 // The highest timestamp, as counts are.
 pub const LATEST: u64 = Row::LATEST as u64;
@@ -155,7 +155,7 @@ fn check_fields(layout: Layout, n: u32, fields: &[u8], count: usize) -> Result<(
     for k in 2..2 + count {
         let m = text::field_length(t);
         if !field_fine(layout, k, &t[..m]) {
-            return Err(model::refused(14, n, k as u32));
+            return Err(model::refused(Reason::BadText, n, k as u32));
         }
         let taken = text::with_comma(t, m);
         t = &t[taken..];
@@ -168,9 +168,9 @@ fn check_fields(layout: Layout, n: u32, fields: &[u8], count: usize) -> Result<(
 fn check_number(n: u32, line: &[u8]) -> Result<(), Refusal>
     ensures { result ≡ answer_of (check_number n line.now) }
 {
-    let v = numerals::read_count(text::field_at(line, 1), 1, 10).ok_or(model::refused(14, n, 1))?;
+    let v = numerals::read_count(text::field_at(line, 1), 1, 10).ok_or(model::refused(Reason::BadText, n, 1))?;
     if v != n as u64 {
-        return Err(model::refused(12, n, 1));
+        return Err(model::refused(Reason::RowNumber, n, 1));
     }
     Ok(())
 }
@@ -184,7 +184,7 @@ pub fn check_line(layout: Layout, n: u32, line: &[u8]) -> Result<(), Refusal>
     let a = layout.analogs as usize;
     let d = layout.statuses as usize;
     if text::field_count(line) != 2 + a + d {
-        return Err(model::refused(14, n, 0));
+        return Err(model::refused(Reason::BadText, n, 0));
     }
     check_number(n, line)?;
     check_fields(layout, n, text::after_fields(line, 1), 1 + a + d)

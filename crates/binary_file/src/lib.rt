@@ -8,7 +8,7 @@ ghost use Rattle.model.specs.Layouts.{Sized};
 ghost use Rattle.binary_row.specs.Rows.{row_size};
 ghost use Rattle.binary_file.specs.Files.{check_rows, check_length, check_binary, binary_row};
 
-use model::{Layout, Refusal, Row};
+use model::{Layout, Reason, Refusal, Row};
 
 // The rows of a file, each at its place.
 fn check_rows(layout: Layout, data: &[u8]) -> Result<(), Refusal>
@@ -32,7 +32,7 @@ pub fn check_length(layout: Layout, data: &[u8]) -> Result<(), Refusal>
 {
     let rows = layout.rows as usize;
     if data.len() != rows * binary_row::row_size(layout) {
-        return Err(model::refused(11, 0, 0));
+        return Err(model::refused(Reason::FileLength, 0, 0));
     }
     Ok(())
 }

@@ -9,7 +9,7 @@ ghost use Rattle.model.specs.Kinds.{width_of, half_of};
 ghost use Rattle.model.specs.Layouts.{Sized};
 ghost use Rattle.binary_row.specs.Rows.{words_of, samples_end, row_size, bytes_sample, bit_of, word_status, padding_free, row_time, check_row, row_of};
 
-use model::{Kind, Layout, Refusal, Row};
+use model::{Kind, Layout, Reason, Refusal, Row};
 
 // Bytes of a row's number, and of its timestamp.
 pub const NUMBER: usize = 4;
@@ -78,10 +78,10 @@ pub fn check_row(layout: Layout, n: u32, bytes: &[u8]) -> Result<(), Refusal>
     let mid = samples_end(layout);
     let end = bytes.len();
     if words::word_of(&bytes[0..NUMBER]) != n {
-        return Err(model::refused(12, n, 1));
+        return Err(model::refused(Reason::RowNumber, n, 1));
     }
     if !padding_free(d, &bytes[mid..end]) {
-        return Err(model::refused(13, n, 0));
+        return Err(model::refused(Reason::Padding, n, 0));
     }
     Ok(())
 }

@@ -9,7 +9,7 @@ ghost use Rattle.calls_change.specs.Calls.{length_call, change_call};
 ghost use Rattle.calls_change.specs.Inner.{needed_in, change_in};
 
 use answers::zl_answer;
-use model::{Kind, Layout};
+use model::{Kind, Layout, Reason};
 
 // The bytes that a change to the kind of a number needs, in a layout.
 #[tactic(auto, unfolding(crate::specs::Inner::needed_in))]
@@ -17,7 +17,7 @@ fn needed_in(layout: Layout, data: &[u8], new_kind: u32) -> zl_answer
     ensures { result ≡ told (needed_in layout «data».now new_kind) }
 {
     let Some(k) = Kind::of(new_kind) else {
-        return answers::no(model::refused(10, 0, 0));
+        return answers::no(model::refused(Reason::Sizes, 0, 0));
     };
     answers::counted(change_length::bytes_needed(layout, data, k))
 }
@@ -36,7 +36,7 @@ pub fn length(
     ensures { result ≡ told (length_call a d rows kind edition «data».now new_kind) }
 {
     let Some(layout) = answers::layout_of(a, d, rows, kind, edition) else {
-        return answers::no(model::refused(10, 0, 0));
+        return answers::no(model::refused(Reason::Sizes, 0, 0));
     };
     needed_in(layout, data, new_kind)
 }
@@ -48,7 +48,7 @@ fn change_in(layout: Layout, data: &[u8], new_kind: u32, out: &mut [u8]) -> zl_a
     ensures out_after { out.new ≡ over (change_in layout «data».now new_kind (length out.old)) out.old }
 {
     let Some(k) = Kind::of(new_kind) else {
-        return answers::no(model::refused(10, 0, 0));
+        return answers::no(model::refused(Reason::Sizes, 0, 0));
     };
     answers::counted(change::change(layout, data, k, out))
 }
@@ -69,7 +69,7 @@ pub fn change(
     ensures out_after { out.new ≡ over (change_call a d rows kind edition «data».now new_kind (length out.old)) out.old }
 {
     let Some(layout) = answers::layout_of(a, d, rows, kind, edition) else {
-        return answers::no(model::refused(10, 0, 0));
+        return answers::no(model::refused(Reason::Sizes, 0, 0));
     };
     change_in(layout, data, new_kind, out)
 }

@@ -10,6 +10,7 @@ ghost use Rattle.calls_config.specs.Calls.{config_call};
 
 use answers::zl_answer;
 use config_rules::Config;
+use model::Reason;
 
 // The places of a configuration.
 const CONFIG: usize = 35;
@@ -20,7 +21,7 @@ fn show_config(config: Config, shown: &mut [i64]) -> zl_answer
     ensures shown_after { shown.new ≡ over (placed 35 (config_places config) (length shown.old)) shown.old }
 {
     if shown.len() < CONFIG {
-        return answers::no(model::refused(17, 0, 0));
+        return answers::no(model::refused(Reason::NoRoom, 0, 0));
     }
     config_places::put_config(config, &mut shown[..CONFIG]);
     answers::yes(0)

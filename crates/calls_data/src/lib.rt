@@ -11,7 +11,7 @@ ghost use Rattle.calls_data.specs.Calls.{check_call, row_call, write_call};
 ghost use Rattle.calls_data.specs.Inner.{row_in, write_in};
 
 use answers::zl_answer;
-use model::{Layout, Row};
+use model::{Layout, Reason, Row};
 
 // Whether a data file is accepted, or the first refusal.
 #[tactic(auto, unfolding(crate::specs::Calls::check_call))]
@@ -19,7 +19,7 @@ pub fn check(a: u32, d: u32, rows: u32, kind: u32, edition: u32, data: &[u8]) ->
     ensures { result ≡ told (check_call a d rows kind edition «data».now) }
 {
     let Some(layout) = answers::layout_of(a, d, rows, kind, edition) else {
-        return answers::no(model::refused(10, 0, 0));
+        return answers::no(model::refused(Reason::Sizes, 0, 0));
     };
     answers::plainly(data::check(layout, data))
 }
@@ -32,7 +32,7 @@ fn show_places(layout: Layout, row: Row, shown: &mut [i64]) -> zl_answer
 {
     let count = row_places::places_of(layout);
     if shown.len() < count {
-        return answers::no(model::refused(17, 0, 0));
+        return answers::no(model::refused(Reason::NoRoom, 0, 0));
     }
     row_places::put_row(layout, row, &mut shown[..count]);
     answers::yes(0)
@@ -65,7 +65,7 @@ pub fn row(
     ensures shown_after { shown.new ≡ over (row_call a d rows kind edition «data».now n (length shown.old)) shown.old }
 {
     let Some(layout) = answers::layout_of(a, d, rows, kind, edition) else {
-        return answers::no(model::refused(10, 0, 0));
+        return answers::no(model::refused(Reason::Sizes, 0, 0));
     };
     row_in(layout, data, n, shown)
 }
@@ -76,18 +76,18 @@ fn write_in(layout: Layout, n: u32, zs: &[i64], out: &mut [u8]) -> zl_answer
     ensures out_after { out.new ≡ over (write_in layout n zs.now (length out.old)) out.old }
 {
     if !layout.is_sized() {
-        return answers::no(model::refused(10, 0, 0));
+        return answers::no(model::refused(Reason::Sizes, 0, 0));
     }
     let count = row_places::places_of(layout);
     if zs.len() < count {
-        return answers::no(model::refused(10, 0, 0));
+        return answers::no(model::refused(Reason::Sizes, 0, 0));
     }
     if !data::has_row(layout, n) {
-        return answers::no(model::refused(15, 0, 0));
+        return answers::no(model::refused(Reason::NoSuchRow, 0, 0));
     }
     let bad = row_places::first_unfit(layout, zs);
     if bad != count {
-        return answers::no(model::refused(16, n, 2 + bad as u32));
+        return answers::no(model::refused(Reason::DoesNotFit, n, 2 + bad as u32));
     }
     answers::counted(data::write_row(layout, n, row_places::row_of_places(layout, zs), out))
 }
@@ -108,7 +108,7 @@ pub fn write_row(
     ensures out_after { out.new ≡ over (write_call a d rows kind edition n row.now (length out.old)) out.old }
 {
     let Some(layout) = answers::layout_of(a, d, rows, kind, edition) else {
-        return answers::no(model::refused(10, 0, 0));
+        return answers::no(model::refused(Reason::Sizes, 0, 0));
     };
     write_in(layout, n, row, out)
 }

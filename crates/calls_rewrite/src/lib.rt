@@ -10,7 +10,7 @@ ghost use Rattle.calls_rewrite.specs.Inner.{refusal_or};
 
 use answers::zl_answer;
 use config_rules::Config;
-use model::{Kind, Refusal};
+use model::{Kind, Reason, Refusal};
 
 // What an answer refuses, or else another refusal.
 fn refusal_or(answer: Result<Config, Refusal>, other: Refusal) -> Refusal
@@ -26,6 +26,6 @@ pub fn write_config(cfg: &[u8], kind: u32, out: &mut [u8]) -> zl_answer
 {
     match Kind::of(kind) {
         Some(k) => answers::counted(rewrite::write_config(cfg, k, out)),
-        None => answers::no(refusal_or(config::read_config(cfg), model::refused(10, 0, 0))),
+        None => answers::no(refusal_or(config::read_config(cfg), model::refused(Reason::Sizes, 0, 0))),
     }
 }

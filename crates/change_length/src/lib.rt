@@ -13,7 +13,7 @@ ghost use Rattle.rows.specs.Inner.{HasRow, row_here, start_fine, walk_fine};
 ghost use Rattle.change_length.specs.Needed.{bytes_needed};
 ghost use Rattle.change_length.specs.Inner.{no_tally, tallied, row_misfit, weigh, tally_of, weighed_of, Short, settle, decided, both_binary, settle_binary};
 
-use model::{Kind, Layout, Refusal};
+use model::{Kind, Layout, Reason, Refusal};
 
 // A sample that does not fit: its row, and its field there.
 #[derive(Clone, Copy)]
@@ -132,7 +132,7 @@ fn settle(new: Layout, tally: Tally) -> Result<usize, Refusal>
     ensures { (result ≡ answer_of (settle new tally)) × (FewBytes result) }
 {
     if let Some(misfit) = tally.misfit {
-        return Err(model::refused(16, misfit.at, misfit.field));
+        return Err(model::refused(Reason::DoesNotFit, misfit.at, misfit.field));
     }
     Ok(tally.length + mark_length(new))
 }
@@ -185,11 +185,11 @@ pub fn bytes_needed(layout: Layout, data: &[u8], kind: Kind) -> Result<usize, Re
     ensures { (result ≡ answer_of (bytes_needed layout «data».now kind)) × (FewBytes result) }
 {
     if !layout.is_sized() {
-        return Err(model::refused(10, 0, 0));
+        return Err(model::refused(Reason::Sizes, 0, 0));
     }
     let edition = layout.edition;
     if !edition.has(kind) {
-        return Err(model::refused(10, 0, 0));
+        return Err(model::refused(Reason::Sizes, 0, 0));
     }
     decide(layout, data, kind)
 }

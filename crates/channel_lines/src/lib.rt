@@ -10,6 +10,7 @@ use line_fields::{
     Fault, at, fine_at, has_fields, index_fault, real_fault, side_fault, state_fault, text_fault,
     value_at,
 };
+use model::Reason;
 
 // TT, A and D: the last two are said.
 #[tactic(auto, unfolding(crate::specs::Channels::channels_line))]
@@ -21,7 +22,7 @@ pub fn channels_line(line: &[u8]) -> Result<(u64, u64), Fault>
     let a = value_at(2, fields::read_lettered(text::field_at(line, 2), 65, 96))?;
     let d = value_at(3, fields::read_lettered(text::field_at(line, 3), 68, 256))?;
     if t != a + d {
-        return Err(at(7, 3));
+        return Err(at(Reason::Disagrees, 3));
     }
     Ok((a, d))
 }
@@ -34,7 +35,7 @@ fn limits_fault(line: &[u8]) -> Result<(), Fault>
     let min = value_at(9, reals::read_limit(text::field_at(line, 9)))?;
     let max = value_at(10, reals::read_limit(text::field_at(line, 10)))?;
     if reals::max_below(max, min) {
-        return Err(at(7, 10));
+        return Err(at(Reason::Disagrees, 10));
     }
     Ok(())
 }

@@ -14,15 +14,15 @@ use codes::Code;
 use line_fields::{
     Fault, above_fault, at, fine_at, frequency_fault, has_fields, rate_fault, text_fault, value_at,
 };
-use model::{Edition, Kind};
+use model::{Edition, Kind, Reason};
 use numerals::FieldError;
 
 // The edition of the year in field 3.
 fn with_year(field: &[u8]) -> Result<Edition, Fault>
     ensures { result ≡ answer_of (year_at 3 (read_year field.now)) }
 {
-    let year = fields::read_year(field).ok_or(at(5, 3))?;
-    Edition::of(year).ok_or(at(8, 3))
+    let year = fields::read_year(field).ok_or(at(Reason::Form, 3))?;
+    Edition::of(year).ok_or(at(Reason::Year, 3))
 }
 
 // Station, device, year.
@@ -66,7 +66,7 @@ pub fn rate_line(line: &[u8], none: bool, before: u64) -> Result<u64, Fault>
         fields::read_count_in(text::field_at(line, 2), 10, 1, 1000000),
     )?;
     if last <= before {
-        return Err(at(7, 2));
+        return Err(at(Reason::Disagrees, 2));
     }
     Ok(last)
 }
@@ -87,10 +87,10 @@ fn none_said(field: &[u8]) -> Result<Option<Moment>, Fault>
     ensures { result ≡ answer_of (none_said (read_time field.now)) }
 {
     let Ok(time) = clock::read_time(field) else {
-        return Err(at(6, 1));
+        return Err(at(Reason::NotAllowed, 1));
     };
     if !clock::is_zero_time(time) {
-        return Err(at(6, 1));
+        return Err(at(Reason::NotAllowed, 1));
     }
     Ok(None)
 }
@@ -115,7 +115,7 @@ pub fn kind_line(line: &[u8], edition: Edition) -> Result<Kind, Fault>
     has_fields(line, 1)?;
     let kind = value_at(1, fields::read_kind(text::field_at(line, 1)))?;
     if !edition.has(kind) {
-        return Err(at(6, 1));
+        return Err(at(Reason::NotAllowed, 1));
     }
     Ok(kind)
 }
@@ -135,7 +135,7 @@ fn code_at(read: Result<Code, FieldError>) -> Result<i64, Fault>
 {
     match value_at(1, read)? {
         Code::Minutes(minutes) => Ok(minutes),
-        Code::X => Err(at(5, 1)),
+        Code::X => Err(at(Reason::Form, 1)),
     }
 }
 

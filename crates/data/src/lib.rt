@@ -11,7 +11,7 @@ ghost use Rattle.ascii_file.specs.Files.{check_text, text_row};
 ghost use Rattle.data.specs.Files.{has_row, check_file, show_row, write_said};
 ghost use Rattle.data.specs.Inner.{shown};
 
-use model::{Kind, Layout, Refusal, Row};
+use model::{Kind, Layout, Reason, Refusal, Row};
 
 // Whether there is a row n.
 #[tactic(auto, unfolding(crate::specs::Files::has_row))]
@@ -30,7 +30,7 @@ pub fn check(layout: Layout, data: &[u8]) -> Result<(), Refusal>
     ensures { result ≡ check_file layout «data».now }
 {
     if !layout.is_sized() {
-        return Err(model::refused(10, 0, 0));
+        return Err(model::refused(Reason::Sizes, 0, 0));
     }
     let kind = layout.kind;
     match kind {
@@ -63,10 +63,10 @@ pub fn show_row(layout: Layout, data: &[u8], n: u32) -> Result<Row, Refusal>
     ensures { result ≡ show_row layout «data».now n }
 {
     if !layout.is_sized() {
-        return Err(model::refused(10, 0, 0));
+        return Err(model::refused(Reason::Sizes, 0, 0));
     }
     if !has_row(layout, n) {
-        return Err(model::refused(15, 0, 0));
+        return Err(model::refused(Reason::NoSuchRow, 0, 0));
     }
     let kind = layout.kind;
     match kind {
@@ -81,10 +81,10 @@ fn may_write(layout: Layout, n: u32, row: Row, room: usize) -> Result<usize, Ref
     ensures { result ≡ written_of (write_said layout n row room) }
 {
     if !layout.is_sized() {
-        return Err(model::refused(10, 0, 0));
+        return Err(model::refused(Reason::Sizes, 0, 0));
     }
     if !has_row(layout, n) {
-        return Err(model::refused(15, 0, 0));
+        return Err(model::refused(Reason::NoSuchRow, 0, 0));
     }
     let a = layout.analogs as usize;
     let samples = row.samples;
@@ -92,10 +92,10 @@ fn may_write(layout: Layout, n: u32, row: Row, room: usize) -> Result<usize, Ref
     let field = 3 + bad as u32;
     let size = row_bytes::row_length(layout, n, row);
     if bad != a {
-        return Err(model::refused(16, n, field));
+        return Err(model::refused(Reason::DoesNotFit, n, field));
     }
     if room < size {
-        return Err(model::refused(17, 0, 0));
+        return Err(model::refused(Reason::NoRoom, 0, 0));
     }
     Ok(size)
 }

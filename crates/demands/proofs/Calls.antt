@@ -33,7 +33,7 @@ use Rattle.model.specs.declared.Refusal.{Refusal}
 use Rattle.model.specs.Kinds.{kind_of}
 use Rattle.model.specs.Editions.{has_kind}
 use Rattle.model.specs.Layouts.{is_sized, in_kind}
-use Rattle.model.specs.Refusals.{refused}
+use Rattle.model.specs.Refusals.{refused, reason_number}
 use Rattle.model.proofs.AnswerLaws.{no-told}
 use Rattle.config_rules.specs.declared.Config.{Config}
 use Rattle.config.specs.Reading.{said_of}
@@ -171,7 +171,7 @@ nothing-beside x r e a q = let w : Err r ≡ Ok a = sym e ∙ q in clash (cc)
 
 -- the answer of an exported call that refuses
 abbrev refusal : Refusal → zl_answer
-refusal r = record { number = r.number; at = r.at; field = r.field; length = 0 }
+refusal r = record { number = reason_number r.reason; at = r.at; field = r.field; length = 0 }
 
 -- DEMAND 1. Zeros beside a "no": no row and no configuration at all, and in the answer of an exported call no length
 pub zeros-beside :
@@ -252,7 +252,7 @@ needed-only l s k =
     only_then (PlacedTo 16) rows last (fits-placed (in_kind k l) (row_at l s) 0 l.rows) (λ g. tt))))
 
 -- DEMAND 1. The length question never says 17
-pub never-17 : (l : Layout) (s : List ℕ) (k : Kind) (r : Refusal) → bytes_needed l s k ≡ refuses r → r.number ≡ 17 → ⊥
+pub never-17 : (l : Layout) (s : List ℕ) (k : Kind) (r : Refusal) → bytes_needed l s k ≡ refuses r → reason_number r.reason ≡ 17 → ⊥
 never-17 l s k r e n = omega (arith, (only-given (PlacedTo 16) (bytes_needed l s k) r e (needed-only l s k)).1)
 
 change-only : (l : Layout) (s : List ℕ) (k : Kind) (room : ℕ) → RefusesOnly Placed (change_said l s k room)

@@ -35,7 +35,7 @@ use Rattle.model.specs.declared.Refusal.{Refusal}
 use Rattle.std.proofs.Common.{Ok}
 use Rattle.model.specs.Editions.{has_kind}
 use Rattle.model.specs.Layouts.{in_kind}
-use Rattle.model.specs.Refusals.{refused}
+use Rattle.model.specs.Refusals.{refused, reason_number}
 use Rattle.model.specs.Rows.{latest_time, trimmed}
 use Rattle.row_bytes.specs.Rows.{bytes_of}
 use Rattle.data.specs.Files.{has_row, misfit_of, check_file, show_row, write_said, file_of}
@@ -116,7 +116,7 @@ module _ (l : Layout) (r : ℕ → Row) (s : List ℕ) (k : Kind) (room : ℕ) (
   not-both : {C : Type 0} (i j : ℕ) → change_said l s k room ≡ refuses (refused 16 (i + 1) (3 + j)) → change_said l s k room ≡ refuses (refused 17 0 0) → C
   not-both i j e f =
       let x : refused 16 (i + 1) (3 + j) ≡ refused 17 0 0 = cc in
-      let y : ◌≡◌ {A = ℕ} 16 17 = ap (λ (z : Refusal). z.number) x in
+      let y : ◌≡◌ {A = ℕ} 16 17 = ap (λ (z : Refusal). reason_number z.reason) x in
       absurd (omega arith)
 
   outside-to : (i j : ℕ) → change_said l s k room ≡ refuses (refused 16 (i + 1) (3 + j)) → FirstOutside l k r i j

@@ -41,6 +41,7 @@ use Rattle.exact.proofs.CommaLaws.{fields-of}
 use Rattle.exact.proofs.TimeLaws.{zero-time}
 use Rattle.exact_config.proofs.LineLaws.{fields-here, zero-line, date-line-exactly}
 use Rattle.demands.proofs.Absent.{pretrigger-is}
+use Rattle.model.specs.Refusals.{reason_number, numbered}
 
 -- DEMAND 2. The request's line
 pub no-date-line : (l : List ℕ) → date_line l ≡ says None ↔ ZeroLine l
@@ -64,8 +65,8 @@ abbrev ZeroTime : Result Time FieldError → Type 0
 ZeroTime t = (x : Time) × (t ≡ Ok x) × (is_zero_time x ≡ true)
 
 -- refusals that differ
-other-number : (n k i j : ℕ) → eqb n k ≡ false → fault n i ≡ fault k j → ⊥
-other-number n k i j d e = eqb-false n k d (ap (λ (f : Fault). f.number) e)
+other-number : (n k i j : ℕ) → eqb (reason_number (numbered n)) (reason_number (numbered k)) ≡ false → fault n i ≡ fault k j → ⊥
+other-number n k i j d e = eqb-false (reason_number (numbered n)) (reason_number (numbered k)) d (ap (λ (f : Fault). reason_number f.reason) e)
 
 -- a time of day beside the date of zeros
 six-beside : (y : Time) → none_said (Ok y) ≡ refuses (fault 6 1) → ZeroTime (Ok y) → ⊥

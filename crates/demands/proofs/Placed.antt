@@ -33,10 +33,10 @@ use Rattle.model.specs.declared.Edition.TheVariants.{Y2013, Y1999}
 use Rattle.model.specs.declared.Layout.{Layout}
 use Rattle.model.specs.declared.Row.{Row}
 use Rattle.model.specs.declared.Refusal.{Refusal}
-use Rattle.model.specs.Refusals.{refused}
+use Rattle.model.specs.Refusals.{refused, reason_number}
 use Rattle.config_rules.specs.declared.Config.{Config}
 use Rattle.config.specs.Reading as reading
-use Rattle.config.specs.Reading.{Place, said_of, in_line, scanned, line, last_line, times}
+use Rattle.config.specs.Reading.{Place, said_of, in_line, scanned, line, last_line, times, refused_in}
 use Rattle.config.specs.Config.{last_rows, size, last_lines, nothing_more, configuration}
 use Rattle.binary_row.specs.Rows as binary
 use Rattle.binary_row.specs.Rows.{row_size, row_number, words_part, padding_free}
@@ -71,7 +71,7 @@ pub data Placed : Refusal → Type 0 where
   sample-unfit : (n k : ℕ) → 1 ≤ n → 1 ≤ k → Placed (refused 16 n k)
   no-room : Placed (refused 17 0 0)
 
-pub placed-number : {r : Refusal} → Placed r → (1 ≤ r.number) × (r.number ≤ 17)
+pub placed-number : {r : Refusal} → Placed r → (1 ≤ reason_number r.reason) × (reason_number r.reason ≤ 17)
 placed-number configuration-size = (lit≤ tt, lit≤ tt)
 placed-number (line-ends n h) = (lit≤ tt, lit≤ tt)
 placed-number (line-byte n h) = (lit≤ tt, lit≤ tt)
@@ -93,7 +93,7 @@ placed-number no-room = (lit≤ tt, lit≤ tt)
 
 -- placed, and of a number of at most so much
 abbrev pub PlacedTo : ℕ → Refusal → Type 0
-PlacedTo most r = Placed r × (r.number ≤ most)
+PlacedTo most r = Placed r × (reason_number r.reason ≤ most)
 
 -- A DATA FILE
 row-placed : (l : Layout) (n : ℕ) (b : List ℕ) → 1 ≤ n → RefusesOnly (PlacedTo 16) (binary.check_row l n b)
@@ -187,7 +187,7 @@ fits-placed l r i (suc m) =
 
 -- A CONFIGURATION
 -- it is told with the line's number
-at-line : {f : Fault} (n : ℕ) → 1 ≤ n → FaultPlaced f → Placed (refused f.number n f.field)
+at-line : {f : Fault} (n : ℕ) → 1 ≤ n → FaultPlaced f → Placed (refused_in n f)
 at-line n h whole = line-fields n h
 at-line n h (form k i) = field-form n k h i
 at-line n h (range k i) = field-range n k h i
@@ -210,7 +210,7 @@ unfolding Read
 in-line n after (says a) h k p = k
 in-line n after (refuses f) h k p = (at-line n h p, small p)
   where
-    small : {f : Fault} → FaultPlaced f → f.number ≤ 9
+    small : {f : Fault} → FaultPlaced f → reason_number f.reason ≤ 9
     small whole = lit≤ tt
     small (form k i) = lit≤ tt
     small (range k i) = lit≤ tt

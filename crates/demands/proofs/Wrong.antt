@@ -78,7 +78,7 @@ use Rattle.model.specs.declared.Refusal.{Refusal}
 use Rattle.model.specs.Kinds.{kind_of}
 use Rattle.model.specs.Samples.{missing, is_missing, none, is_none, sample_of, holds, fits, sample_of_word, word_of_sample, marked, is_mark}
 use Rattle.model.specs.Layouts.{is_sized, in_kind}
-use Rattle.model.specs.Refusals.{refused}
+use Rattle.model.specs.Refusals.{refused, reason_number}
 use Rattle.model.specs.Rows.{zero_row, sample_at, misfit}
 use Rattle.config_rules.specs.Shown.{with_kind}
 use Rattle.config_rules.specs.declared.Config.{Config}
@@ -236,8 +236,8 @@ given (says new) = refused 0 0 0
 given (refuses r) = r
 
 -- a call gives one refusal
-one-refusal : (x : Said Refusal (List ℕ)) (p q : Refusal) → x ≡ refuses p → x ≡ refuses q → (p.number ≡ q.number) × (p.at ≡ q.at)
-one-refusal x p q e f = (sym (ap (λ y. (given y).number) e) ∙ ap (λ y. (given y).number) f, sym (ap (λ y. (given y).at) e) ∙ ap (λ y. (given y).at) f)
+one-refusal : (x : Said Refusal (List ℕ)) (p q : Refusal) → x ≡ refuses p → x ≡ refuses q → (reason_number p.reason ≡ reason_number q.reason) × (p.at ≡ q.at)
+one-refusal x p q e f = (sym (ap (λ y. reason_number (given y).reason) e) ∙ ap (λ y. reason_number (given y).reason) f, sym (ap (λ y. (given y).at) e) ∙ ap (λ y. (given y).at) f)
 
 -- what a buffer holds where this was said
 abbrev filled_by : List ℕ → List ℕ → List ℕ
@@ -442,7 +442,7 @@ edition-lost f =
 pub missing-left-empty : ((l : Layout) (s u : List ℕ) (room : ℕ) → channel_of 1 (show_row l s 1) ≡ Ok None → change_said l s Ascii room ≡ says u → get_or u 4 0 ≡ 13) → ⊥
 missing-left-empty f = eqb-false 57 13 refl (f (of-1999 1 0 1 Ascii) marked-text marked-text 14 computed.5.1 computed.5.10)
 
-pub every-kind-taken : ((l : Layout) (s : List ℕ) (k : Kind) (room : ℕ) (r : Refusal) → check_file l s ≡ Ok tt → change_said l s k room ≡ refuses r → (r.number ≡ 10 → ⊥)) → ⊥
+pub every-kind-taken : ((l : Layout) (s : List ℕ) (k : Kind) (room : ℕ) (r : Refusal) → check_file l s ≡ Ok tt → change_said l s k room ≡ refuses r → (reason_number r.reason ≡ 10 → ⊥)) → ⊥
 every-kind-taken f = f (of-1999 1 0 1 Ascii) marked-text Binary32 14 (refused 10 0 0) computed.5.0 computed.5.7 refl
 
 -- the recording of the rules as one of 1999
@@ -494,7 +494,7 @@ unfolding date_line field_count after_fields field_at read_date is_zero_date dat
 no-time-beside = refl
 
 pub five-beside-no-date : date_line (quoted "00/00/0000,x") ≡ refuses (fault 5 2) → ⊥
-five-beside-no-date e = let q : fault 6 1 ≡ fault 5 2 = cc (sym no-time-beside ∙ e) in eqb-false 6 5 refl (ap (λ (f : Fault). f.number) q)
+five-beside-no-date e = let q : fault 6 1 ≡ fault 5 2 = cc (sym no-time-beside ∙ e) in eqb-false 6 5 refl (ap (λ (f : Fault). reason_number f.reason) q)
 
 pub half-zero-date-taken : (c : Config) → read_config (recording_with "00/02/2024" "0,0") ≡ Ok c → ⊥
 half-zero-date-taken c e = yes-no (read_config (recording_with "00/02/2024" "0,0")) (refused 6 8 1) e half-zero-refused

@@ -30,9 +30,10 @@ use Rattle.config_lines.specs.Lines.{station_line, frequency_line, rates_line, r
 use Rattle.model.specs.declared.Edition.{Edition}
 use Rattle.model.specs.declared.Edition.TheVariants.{Y2013, Y1999}
 use Rattle.model.specs.declared.Refusal.{Refusal}
-use Rattle.model.specs.Refusals.{refused}
+use Rattle.model.proofs.NumberLaws.{number-back}
+use Rattle.model.specs.Refusals.{refused, reason_number}
 use Rattle.config_rules.specs.declared.Config.{Config}
-use Rattle.config.specs.Reading.{Place, Reader, said_of, in_line, scanned, done, asking, line, last_line, times}
+use Rattle.config.specs.Reading.{Place, Reader, said_of, in_line, scanned, done, asking, line, last_line, times, refused_in}
 use Rattle.config.specs.Reading as paper
 use Rattle.config.specs.Config.{last_rows, last_lines, configuration, read_config}
 use Rattle.paper.specs.Lines.{Line, ended, StationLine, ChannelsLine, AnalogLine, StatusLine, FrequencyLine, RatesLine, rate_sign, RateLine, StampLine, KindLine, MultiplierLine, CodesLine, QualityLine}
@@ -48,7 +49,7 @@ Fails n x s k = (j : ℕ) × (k ≡ n + j) × (t : List ℕ) × (u : List ℕ) �
 
 -- a refusal that is of a line
 abbrev OfLine : Refusal → Type 0
-OfLine r = (2 ≤ r.number) × (r.number < 9)
+OfLine r = (2 ≤ reason_number r.reason) × (reason_number r.reason < 9)
 
 pub record Stops {A : Type 0} (r : Reader A) (x : Due) : Type 0 where
   pub fails : (n : ℕ) (s : List ℕ) (e : Refusal) → r (n, s) ≡ refuses e → OfLine e → Fails n x s e.at
@@ -124,7 +125,7 @@ asking_walks test refusal x other =
 -- a line's refusal is told with its number
 in-line-at : {A : Type 0} (n : ℕ) (p : Place) (e : Refusal) (x : Said Fault A) → in_line n p x ≡ refuses e → e.at ≡ n
 in-line-at n p e (says a) q = clash (cc)
-in-line-at n p e (refuses f) q = let w : refused f.number n f.field ≡ e = cc in ap (λ (r : Refusal). r.at) (sym w)
+in-line-at n p e (refuses f) q = let w : refused_in n f ≡ e = cc in ap (λ (r : Refusal). r.at) (sym w)
 
 scanned-at : {A : Type 0} (rule : List ℕ → Said Fault A) (n : ℕ) (s : List ℕ) (e : Refusal) (f : Result text.Line LineError) → scanned rule (n, s) f ≡ refuses e → e.at ≡ n
 scanned-at rule n s e (Ok one) q = in-line-at n (n + 1, drop one.taken s) e (rule (take one.len s)) q
@@ -226,7 +227,7 @@ nothing-more c p e f o = nine (bind-cases (asking (eqb (length p.1) 0) (refused 
   where
     nine : (asking (eqb (length p.1) 0) (refused 9 p.0 0) p ≡ refuses e)
         ⊎ ((q : Unit {0} × Place) × (asking (eqb (length p.1) 0) (refused 9 p.0 0) p ≡ says q) × (done c q.1 ≡ refuses e)) → ⊥
-    nine (inl h) = let w = ap (λ (r : Refusal). r.number) (asking-refused (eqb (length p.1) 0) (refused 9 p.0 0) e p h) in absurd (omega arith)
+    nine (inl h) = let w = ap (λ (r : Refusal). reason_number r.reason) (asking-refused (eqb (length p.1) 0) (refused 9 p.0 0) e p h) in absurd (omega arith)
     nine (inr (q, h, g)) = clash (cc)
 
 -- the time multiplier, and what follows it
@@ -269,6 +270,6 @@ refused-said (refuses t) r e = cc
 pub first-fault : (s : List ℕ) (n k f : ℕ) → read_config s ≡ Err (refused n k f) → 2 ≤ n → n < 9 → FailsAt k s
 unfolding read_config
 first-fault s n k f e least most =
-    let (j, q, t, u, w, y, l, none) = config-stops.fails 1 s (refused n k f) (refused-said (configuration (1, s)) (refused n k f) e) (least, most) in
+    let (j, q, t, u, w, y, l, none) = config-stops.fails 1 s (refused n k f) (refused-said (configuration (1, s)) (refused n k f) e) (rw (number-back n (omega arith) (omega arith)) (least, most)) in
     let m : j ≡ k - 1 = omega arith in
     record { before = t; rest = u; whole = w; due = y; right = subst (λ (i : ℕ). RightLines i station t y) m l; wrong = none }

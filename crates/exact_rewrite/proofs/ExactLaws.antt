@@ -25,7 +25,7 @@ use Rattle.model.specs.declared.Kind.{Kind}
 use Rattle.model.specs.declared.Refusal.{Refusal}
 use Rattle.std.proofs.Common.{Ok}
 use Rattle.model.specs.Editions.{has_kind}
-use Rattle.model.specs.Refusals.{refused}
+use Rattle.model.specs.Refusals.{refused, reason_number}
 use Rattle.config_rules.specs.declared.Config.{Config}
 use Rattle.config_rules.specs.Shown.{with_kind}
 use Rattle.config.specs.Config.{read_config}
@@ -65,11 +65,11 @@ result-one new room e =
   where
     no_one : (t : Bool) → (must t (refused 17 0 0) >> says new) ≡ refuses (refused 1 0 0) → ⊥
     no_one true e = clash (cc)
-    no_one false e = let q : refused 17 0 0 ≡ refused 1 0 0 = cc e in let n : ◌≡◌ {A = ℕ} 17 1 = ap (λ (r : Refusal). r.number) q in omega arith
+    no_one false e = let q : refused 17 0 0 ≡ refused 1 0 0 = cc e in let n : ◌≡◌ {A = ℕ} 17 1 = ap (λ (r : Refusal). reason_number r.reason) q in omega arith
 
 one_told : (has : Bool) (new : List ℕ) (room : ℕ) → (must has (refused 10 0 0) >> result_said new room) ≡ refuses (refused 1 0 0) → 65536 < length new
 one_told true new room e = result-one new room e
-one_told false new room e = let q : refused 10 0 0 ≡ refused 1 0 0 = cc e in let n : ◌≡◌ {A = ℕ} 10 1 = ap (λ (r : Refusal). r.number) q in omega arith
+one_told false new room e = let q : refused 10 0 0 ≡ refused 1 0 0 = cc e in let n : ◌≡◌ {A = ℕ} 10 1 = ap (λ (r : Refusal). reason_number r.reason) q in omega arith
 
 written-to : (s : List ℕ) (k : Kind) (room : ℕ) (w : List ℕ) → rewrite_said s k room ≡ says w
     → (c : Config) × Configuration s c × (has_kind c.layout.edition k ≡ true) × (w ≡ rewritten c k s) × (length w ≤ 65536) × (length w ≤ room)

@@ -1,5 +1,7 @@
 -- The checks that a line's rule is made of, from the left. A line says its values, or refuses with a number and a field.
 use Rattle.std.specs.Prelude.{List, ℕ, eqb}
+use Rattle.model.specs.declared.Reason.{Reason}
+use Rattle.model.specs.Refusals.{numbered}
 use Rattle.ground.specs.Said.{Said, says, refuses, must}
 use Rattle.text.specs.Fields.{field_count, field_at}
 use Rattle.std.specs.Prelude.{Err, Ok, Result}
@@ -9,7 +11,7 @@ use Rattle.line_fields.specs.Faults.{error_number}
 
 -- a refusal's number and field; field 0 is the whole line
 abbrev pub fault : ℕ → ℕ → Fault
-fault n k = record { number = n; field = k }
+fault n k = record { reason = numbered n; field = k }
 
 -- 4: a line has so many fields
 abbrev pub has_fields : ℕ → List ℕ → Said Fault (Unit {0})
@@ -25,9 +27,9 @@ value_at k (Ok v) = says v
 value_at k (Err e) = refuses (fault (error_number e) k)
 
 -- field k is fine, or has the number of its check
-abbrev pub fine_at : ℕ → Result (Unit {0}) ℕ → Result (Unit {0}) Fault
+abbrev pub fine_at : ℕ → Result (Unit {0}) Reason → Result (Unit {0}) Fault
 fine_at k (Ok u) = Ok tt
-fine_at k (Err n) = Err (fault n k)
+fine_at k (Err r) = Err (record { reason = r; field = k })
 
 -- field k has a number
 abbrev pub value : ℕ → (List ℕ → Result ℕ FieldError) → List ℕ → Said Fault ℕ

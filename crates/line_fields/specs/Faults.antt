@@ -1,5 +1,7 @@
 -- What is wrong with a field, as the paper's number: 0 where it is fine, 5 for its form, 6 for a value that is not allowed.
 use Rattle.std.specs.Prelude.{Bool, List, ℕ, eqb, length, if◌then◌else◌}
+use Rattle.model.specs.declared.Reason.{Reason}
+use Rattle.model.specs.Refusals.{numbered}
 use Rattle.std.specs.Prelude.{Err, None, Ok, Option, Result, Some}
 use Rattle.reals.specs.declared.Sign.{Sign}
 use Rattle.numerals.specs.declared.FieldError.{FieldError}
@@ -10,8 +12,8 @@ use Rattle.fields.specs.Fields.{read_state, read_side}
 use Rattle.reals.specs.Forms.{read_real}
 
 -- what is wrong with a field by its number: nothing where it is 0
-abbrev pub checked : ℕ → Result (Unit {0}) ℕ
-checked n = if eqb n 0 then Ok tt else Err n
+abbrev pub checked : ℕ → Result (Unit {0}) Reason
+checked n = if eqb n 0 then Ok tt else Err (numbered n)
 
 -- 5 for a wrong form, 6 for a value that is not allowed
 abbrev pub error_number : FieldError → ℕ

@@ -54,7 +54,7 @@ row_line l n r =
 -- the line of a refusal: what it speaks of, its number and its place
 unfoldable pub refusal_line : List ℕ → Refusal → List ℕ
 refusal_line what r =
-    named what r.number
+    named what (reason_number r.reason)
     ++ named (quoted " ") r.at
     ++ named (quoted " ") r.field
     ++ quoted "\n"

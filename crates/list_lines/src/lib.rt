@@ -143,7 +143,7 @@ pub fn put_refusal_line(out: &mut [u8], what: &[u8], refusal: Refusal) -> usize
     requires { (length what.now ≤ 8) × (64 ≤ length out.old) }
     ensures { Put out.old 0 (refusal_line what.now refusal) out.new result }
 {
-    let number = put_named(out, 0, what, refusal.number);
+    let number = put_named(out, 0, what, refusal.reason.number());
     let place = put_named(out, number, b" ", refusal.at);
     let field = put_named(out, place, b" ", refusal.field);
     pieces::put_all(out, field, b"\n")

@@ -8,7 +8,7 @@ ghost use Rattle.model.specs.Refusals.{written_of, FewBytes};
 ghost use Rattle.reasons.specs.Reasons.{text_said, reason_said};
 ghost use Rattle.reasons.specs.Inner.{reason_text, reason_texts, reason_start};
 
-use model::Refusal;
+use model::{Reason, Refusal};
 
 // The text is written at the front of `out`, or nothing is.
 #[tactic(auto, unfolding(crate::specs::Reasons::text_said))]
@@ -19,7 +19,7 @@ fn say_text(text: &[u8], out: &mut [u8]) -> Result<usize, Refusal>
 {
     let size = text.len();
     if out.len() < size {
-        return Err(model::refused(17, 0, 0));
+        return Err(model::refused(Reason::NoRoom, 0, 0));
     }
     out[..size].copy_from_slice(text);
     Ok(size)
@@ -76,6 +76,6 @@ pub fn put_reason(number: u32, out: &mut [u8]) -> Result<usize, Refusal>
             number as usize - 1,
             out,
         ),
-        _ => Err(model::refused(10, 0, 0)),
+        _ => Err(model::refused(Reason::Sizes, 0, 0)),
     }
 }

@@ -11,7 +11,7 @@ ghost use Rattle.rewrite.specs.Rewrite.{rewritten, result_said, rewrite_said};
 ghost use Rattle.rewrite.specs.Inner.{in_edition};
 
 use config_rules::Config;
-use model::{Kind, Refusal};
+use model::{Kind, Reason, Refusal};
 use rewrite_lines::LineSort;
 
 // The most bytes of a configuration.
@@ -76,10 +76,10 @@ fn rewrite(config: Config, kind: Kind, cfg: &[u8], out: &mut [u8]) -> Result<usi
 {
     let size = rewritten_length(config, kind, cfg);
     if MOST < size {
-        return Err(model::refused(1, 0, 0));
+        return Err(model::refused(Reason::TooLong, 0, 0));
     }
     if out.len() < size {
-        return Err(model::refused(17, 0, 0));
+        return Err(model::refused(Reason::NoRoom, 0, 0));
     }
     Ok(put_rewritten(out, config, kind, cfg))
 }
@@ -92,7 +92,7 @@ fn rewrite_in(config: Config, kind: Kind, cfg: &[u8], out: &mut [u8]) -> Result<
     ensures out_after { out.new ≡ over (in_edition config kind cfg.now (length out.old)) out.old }
 {
     if !config.layout.edition.has(kind) {
-        return Err(model::refused(10, 0, 0));
+        return Err(model::refused(Reason::Sizes, 0, 0));
     }
     rewrite(config, kind, cfg, out)
 }

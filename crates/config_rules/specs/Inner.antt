@@ -7,7 +7,7 @@ use Rattle.model.specs.declared.Edition.TheVariants.{Y2013, Y1999}
 use Rattle.line_fields.specs.declared.Fault.{Fault}
 use Rattle.channel_lines.specs.Channels.{channels_line, analog_line, status_line}
 use Rattle.config_lines.specs.Lines.{station_line, frequency_line, rates_line, rate_line, date_line, kind_line, multiplier_line, codes_line, quality_line}
-use Rattle.std.specs.Prelude.{None, Option, Some}
+use Rattle.std.specs.Prelude.{None, Option, Some, Result, Ok, Err}
 use Rattle.clock.specs.declared.Moment.{Moment}
 use Rattle.config_rules.specs.declared.LastLines.{LastLines}
 use Rattle.clock.specs.declared.Span.{Span}
@@ -116,6 +116,11 @@ with_quality q p c = with_end (qualified q p c.last) c
 -- the rule of the line after one that is fine, and what is shown so far
 abbrev pub taken : Rule → Config → Taken
 taken rule config = record { rule = rule; config = config }
+
+-- what the code answers, the rule of the line after it or a fault, and what is shown so far beside it
+abbrev pub taken_by : Result Rule Fault → Config → Result Taken Fault
+taken_by (Ok rule) c = Ok (taken rule c)
+taken_by (Err f) c = Err f
 
 -- a line by its rule
 unfoldable pub take_line : Rule → Config → List ℕ → Said Fault Taken

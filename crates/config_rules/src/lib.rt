@@ -4,8 +4,7 @@
 
 ghost use Rattle.std.specs.Prelude.{◌≡◌};
 ghost use Rattle.ground.specs.Said.{answer_of};
-ghost use Rattle.config_rules.specs.Shown.{with_kind};
-ghost use Rattle.config_rules.specs.Inner.{after_analog, after_status, after_rate, after_multiplier, with_edition, with_last, with_stamps, with_end, qualified, take_line, Ready};
+ghost use Rattle.config_rules.specs.Inner.{after_analog, after_status, after_rate, after_multiplier, with_last, qualified, taken_by, take_line, Ready};
 
 use clock::{Moment, Span};
 use line_fields::Fault;
@@ -103,166 +102,110 @@ fn after_multiplier(edition: Edition) -> Rule
     }
 }
 
-// The configuration with its edition.
-#[tactic(auto, unfolding(crate::specs::Inner::with_edition))]
-fn with_edition(c: Config, edition: Edition) -> Config
-    ensures { result ≡ with_edition edition c }
+// The last row of rate i, which is the number of rows so far.
+fn put_last(c: &mut Config, i: u32, last: u32)
+    ensures { c.new ≡ with_last i last c.old }
 {
-    let layout = Layout {
-        edition: edition,
-        ..c.layout
-    };
-    Config {
-        layout: layout,
-        ..c
-    }
-}
-
-// The configuration with the last row of rate i, which is the number of rows so far.
-fn with_last(c: Config, i: u32, last: u32) -> Config
-    ensures { result ≡ with_last i last c }
-{
-    let mut e = c;
-    e.layout.rows = last;
+    c.layout.rows = last;
     let j = i as usize;
     if j < 8 {
-        e.lasts[j] = last;
-    }
-    e
-}
-
-// The configuration with its kind.
-#[tactic(auto, unfolding(crate::specs::Shown::with_kind))]
-fn with_kind(c: Config, kind: Kind) -> Config
-    ensures { result ≡ with_kind kind c }
-{
-    Config {
-        layout: c.layout.in_kind(kind),
-        ..c
-    }
-}
-
-// The configuration with its two date lines and the time between them.
-fn with_stamps(
-    c: Config,
-    first: Option<Moment>,
-    trigger: Option<Moment>,
-    pretrigger: Option<Span>,
-) -> Config
-    ensures { result ≡ with_stamps first trigger pretrigger c }
-{
-    Config {
-        first: first,
-        trigger: trigger,
-        pretrigger: pretrigger,
-        ..c
-    }
-}
-
-// The configuration with what the last lines say.
-fn with_end(c: Config, last: Option<LastLines>) -> Config
-    ensures { result ≡ with_end last c }
-{
-    Config { last: last, ..c }
-}
-
-// The two together.
-fn judged(rule: Rule, config: Config) -> Taken
-    ensures { result ≡ record { rule = rule; config = config } }
-{
-    Taken {
-        rule: rule,
-        config: config,
+        c.lasts[j] = last;
     }
 }
 
 // Station, device, year.
-#[tactic(auto, unfolding(crate::specs::Inner::take_line))]
-fn take_station(line: &[u8], c: Config) -> Result<Taken, Fault>
-    ensures { result ≡ answer_of (take_line Rule.Station c line.now) }
+#[tactic(auto, unfolding(crate::specs::Inner::take_line, crate::specs::Inner::with_edition))]
+fn take_station(line: &[u8], c: &mut Config) -> Result<Rule, Fault>
+    ensures { taken_by result c.new ≡ answer_of (take_line Rule.Station c.old line.now) }
 {
     let edition = config_lines::station_line(line)?;
-    Ok(judged(Rule::Counts, with_edition(c, edition)))
+    c.layout.edition = edition;
+    Ok(Rule::Counts)
 }
 
 // TT, A and D: what is left to read follows from them.
 #[tactic(auto, unfolding(crate::specs::Inner::take_line, crate::specs::Inner::with_counts))]
-fn take_counts(line: &[u8], c: Config) -> Result<Taken, Fault>
-    ensures { result ≡ answer_of (take_line Rule.Counts c line.now) }
+fn take_counts(line: &[u8], c: &mut Config) -> Result<Rule, Fault>
+    ensures { taken_by result c.new ≡ answer_of (take_line Rule.Counts c.old line.now) }
 {
     let (analogs, statuses) = channel_lines::channels_line(line)?;
     let a = analogs as u32;
     let d = statuses as u32;
-    let mut e = c;
-    e.layout.analogs = a;
-    e.layout.statuses = d;
-    Ok(judged(after_analog(0, a, d), e))
+    c.layout.analogs = a;
+    c.layout.statuses = d;
+    Ok(after_analog(0, a, d))
 }
 
 // The number of rates.
 #[tactic(auto, unfolding(crate::specs::Inner::take_line, crate::specs::Inner::with_rates))]
-fn take_rate_count(line: &[u8], c: Config) -> Result<Taken, Fault>
-    ensures { result ≡ answer_of (take_line Rule.RateCount c line.now) }
+fn take_rate_count(line: &[u8], c: &mut Config) -> Result<Rule, Fault>
+    ensures { taken_by result c.new ≡ answer_of (take_line Rule.RateCount c.old line.now) }
 {
     let rates = config_lines::rates_line(line)?;
-    let e = Config {
-        rates: rates as u32,
-        ..c
-    };
-    Ok(judged(Rule::Rate(0), e))
+    let e = rates as u32;
+    c.rates = e;
+    Ok(Rule::Rate(0))
 }
 
 // A rate and its last row, which must be above the one before it.
 #[tactic(auto, unfolding(crate::specs::Inner::take_line))]
-fn take_rate(line: &[u8], c: Config, i: u32) -> Result<Taken, Fault>
-    ensures { result ≡ answer_of (take_line (Rule.Rate i) c line.now) }
+fn take_rate(line: &[u8], c: &mut Config, i: u32) -> Result<Rule, Fault>
+    ensures { taken_by result c.new ≡ answer_of (take_line (Rule.Rate i) c.old line.now) }
 {
     let last = config_lines::rate_line(line, c.rates == 0, c.layout.rows as u64)?;
-    Ok(judged(after_rate(i, c.rates), with_last(c, i, last as u32)))
+    let rates = c.rates;
+    put_last(c, i, last as u32);
+    Ok(after_rate(i, rates))
 }
 
 // The first sample's date and time, or that it has none; of the trigger nothing is known yet.
 #[tactic(auto, unfolding(crate::specs::Inner::take_line))]
-fn take_first(line: &[u8], c: Config) -> Result<Taken, Fault>
-    ensures { result ≡ answer_of (take_line Rule.First c line.now) }
+fn take_first(line: &[u8], c: &mut Config) -> Result<Rule, Fault>
+    ensures { taken_by result c.new ≡ answer_of (take_line Rule.First c.old line.now) }
 {
     let first = config_lines::date_line(line)?;
-    Ok(judged(Rule::Trigger, with_stamps(c, first, None, None)))
+    c.first = first;
+    c.trigger = None;
+    c.pretrigger = None;
+    Ok(Rule::Trigger)
 }
 
 // The trigger's date and time, or that it has none, and the time before it.
 #[tactic(auto, unfolding(crate::specs::Inner::take_line))]
-fn take_trigger(line: &[u8], c: Config) -> Result<Taken, Fault>
-    requires { Ready Rule.Trigger c }
-    ensures { result ≡ answer_of (take_line Rule.Trigger c line.now) }
+fn take_trigger(line: &[u8], c: &mut Config) -> Result<Rule, Fault>
+    requires { Ready Rule.Trigger c.old }
+    ensures { taken_by result c.new ≡ answer_of (take_line Rule.Trigger c.old line.now) }
 {
     let trigger = config_lines::date_line(line)?;
     let pretrigger = clock::pretrigger_of(c.first, trigger);
-    Ok(judged(Rule::KindWord, with_stamps(c, c.first, trigger, pretrigger)))
+    c.trigger = trigger;
+    c.pretrigger = pretrigger;
+    Ok(Rule::KindWord)
 }
 
 // The kind's word.
-#[tactic(auto, unfolding(crate::specs::Inner::take_line))]
-fn take_kind(line: &[u8], c: Config) -> Result<Taken, Fault>
-    ensures { result ≡ answer_of (take_line Rule.KindWord c line.now) }
+#[tactic(auto, unfolding(crate::specs::Inner::take_line, crate::specs::Shown::with_kind))]
+fn take_kind(line: &[u8], c: &mut Config) -> Result<Rule, Fault>
+    ensures { taken_by result c.new ≡ answer_of (take_line Rule.KindWord c.old line.now) }
 {
     let kind = config_lines::kind_line(line, c.layout.edition)?;
-    Ok(judged(Rule::Multiplier, with_kind(c, kind)))
+    c.layout.kind = kind;
+    Ok(Rule::Multiplier)
 }
 
 // The time multiplier.
 #[tactic(auto, unfolding(crate::specs::Inner::take_line))]
-fn take_multiplier(line: &[u8], c: Config) -> Result<Taken, Fault>
-    ensures { result ≡ answer_of (take_line Rule.Multiplier c line.now) }
+fn take_multiplier(line: &[u8], c: &Config) -> Result<Rule, Fault>
+    ensures { taken_by result c.now ≡ answer_of (take_line Rule.Multiplier c.now line.now) }
 {
     config_lines::multiplier_line(line)?;
-    Ok(judged(after_multiplier(c.layout.edition), c))
+    Ok(after_multiplier(c.layout.edition))
 }
 
 // The two time codes.
 #[tactic(auto, unfolding(crate::specs::Inner::take_line, crate::specs::Inner::with_codes))]
-fn take_codes(line: &[u8], c: Config) -> Result<Taken, Fault>
-    ensures { result ≡ answer_of (take_line Rule.Codes c line.now) }
+fn take_codes(line: &[u8], c: &mut Config) -> Result<Rule, Fault>
+    ensures { taken_by result c.new ≡ answer_of (take_line Rule.Codes c.old line.now) }
 {
     let (code, x, local) = config_lines::codes_line(line)?;
     let lines = LastLines {
@@ -272,7 +215,8 @@ fn take_codes(line: &[u8], c: Config) -> Result<Taken, Fault>
         quality: 0,
         leap: 0,
     };
-    Ok(judged(Rule::Quality, with_end(c, Some(lines))))
+    c.last = Some(lines);
+    Ok(Rule::Quality)
 }
 
 // The last lines with quality and leap second code.
@@ -290,34 +234,35 @@ fn qualified(last: Option<LastLines>, quality: u32, leap: u32) -> Option<LastLin
 
 // Quality and leap second code, on the last line.
 #[tactic(auto, unfolding(crate::specs::Inner::take_line, crate::specs::Inner::with_quality))]
-fn take_quality(line: &[u8], c: Config) -> Result<Taken, Fault>
-    ensures { result ≡ answer_of (take_line Rule.Quality c line.now) }
+fn take_quality(line: &[u8], c: &mut Config) -> Result<Rule, Fault>
+    ensures { taken_by result c.new ≡ answer_of (take_line Rule.Quality c.old line.now) }
 {
     let (quality, leap) = config_lines::quality_line(line)?;
     let last = qualified(c.last, quality as u32, leap as u32);
-    Ok(judged(Rule::Done, with_end(c, last)))
+    c.last = last;
+    Ok(Rule::Done)
 }
 
-// A line by its rule: what is shown of it and the lines before it, or its fault.
+// A line by its rule: what it says is put down, and the rule of the line after it is the result; or its fault.
 #[tactic(auto, unfolding(crate::specs::Inner::take_line))]
-pub fn take_line(line: &[u8], rule: Rule, c: Config) -> Result<Taken, Fault>
-    requires { Ready rule c }
-    ensures { result ≡ answer_of (take_line rule c line.now) }
+pub fn take_line(line: &[u8], rule: Rule, c: &mut Config) -> Result<Rule, Fault>
+    requires { Ready rule c.old }
+    ensures { taken_by result c.new ≡ answer_of (take_line rule c.old line.now) }
 {
     match rule {
         Rule::Station => take_station(line, c),
         Rule::Counts => take_counts(line, c),
         Rule::Analog(i) => {
             channel_lines::analog_line(line, i as u64)?;
-            Ok(judged(after_analog(i, c.layout.analogs, c.layout.statuses), c))
+            Ok(after_analog(i, c.layout.analogs, c.layout.statuses))
         }
         Rule::Status(i) => {
             channel_lines::status_line(line, i as u64)?;
-            Ok(judged(after_status(i, c.layout.statuses), c))
+            Ok(after_status(i, c.layout.statuses))
         }
         Rule::Frequency => {
             config_lines::frequency_line(line)?;
-            Ok(judged(Rule::RateCount, c))
+            Ok(Rule::RateCount)
         }
         Rule::RateCount => take_rate_count(line, c),
         Rule::Rate(i) => take_rate(line, c, i),
@@ -327,6 +272,6 @@ pub fn take_line(line: &[u8], rule: Rule, c: Config) -> Result<Taken, Fault>
         Rule::Multiplier => take_multiplier(line, c),
         Rule::Codes => take_codes(line, c),
         Rule::Quality => take_quality(line, c),
-        Rule::Done => Ok(judged(Rule::Done, c)),
+        Rule::Done => Ok(Rule::Done),
     }
 }

@@ -5,6 +5,7 @@
 --     Ruled                             a rule that refuses only so
 --     has-fields-ruled, faultless-ruled, agrees-ruled, value-ruled     the checks that a line is made of
 --     then-ruled, bind-ruled            and what is made of two of them
+--     fault-numbered                    a refusal has a number, and it is not 0
 -- Assumes nothing.
 use mathlib.Core.Bool.{Bool, true, false}
 use mathlib.Core.List.{List}
@@ -25,6 +26,8 @@ use Rattle.reals.specs.Forms.{read_real}
 use Rattle.line_fields.specs.declared.Fault.{Fault}
 use Rattle.line_fields.specs.Faults.{number_of_read, text_fault, index_is, index_fault, any_real, real_fault, frequency_fault, above_zero, above_fault, at_zero, zero_fault, rate_fault}
 use Rattle.line_fields.specs.Checks.{fault, has_fields, faultless, value_at}
+use Rattle.model.specs.Refusals.{reason_number}
+use Rattle.std.proofs.Common.{◌≡◌, arith}
 
 -- a field's number: 0 where it is fine
 pub data FieldNumber : ℕ → Type 0 where
@@ -129,3 +132,10 @@ module _ (k : ℕ) (h : 1 ≤ k) where
   value-ruled (Ok v) = tt
   value-ruled (Err Form) = form k h
   value-ruled (Err Range) = range k h
+
+pub fault-numbered : {f : Fault} → FaultPlaced f → reason_number f.reason ≡ 0 → ⊥
+fault-numbered whole z = absurd (omega arith)
+fault-numbered (form k h) z = absurd (omega arith)
+fault-numbered (range k h) z = absurd (omega arith)
+fault-numbered (agreement k h) z = absurd (omega arith)
+fault-numbered (year k h) z = absurd (omega arith)

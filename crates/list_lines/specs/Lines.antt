@@ -6,6 +6,7 @@ use Rattle.numerals.specs.Decimals.{decimal, plain}
 use Rattle.model.specs.declared.Layout.{Layout}
 use Rattle.model.specs.declared.Row.{Row}
 use Rattle.model.specs.declared.Refusal.{Refusal}
+use Rattle.model.specs.Refusals.{reason_number}
 use Rattle.std.specs.Prelude.{Err, None, Ok, Option, Result, Some, ℤ}
 use Rattle.model.specs.Kinds.{kind_name}
 use Rattle.model.specs.Rows.{sample_at, status_at, status_value}

@@ -168,7 +168,11 @@ fn check_fields(layout: Layout, n: u32, fields: &[u8], count: usize) -> Result<(
 fn check_number(n: u32, line: &[u8]) -> Result<(), Refusal>
     ensures { result ≡ answer_of (check_number n line.now) }
 {
-    let v = numerals::read_count(text::field_at(line, 1), 1, 10).ok_or(model::refused(Reason::BadText, n, 1))?;
+    let v = numerals::read_count(text::field_at(line, 1), 1, 10).ok_or(model::refused(
+        Reason::BadText,
+        n,
+        1,
+    ))?;
     if v != n as u64 {
         return Err(model::refused(Reason::RowNumber, n, 1));
     }

@@ -26,6 +26,9 @@ pub fn write_config(cfg: &[u8], kind: u32, out: &mut [u8]) -> zl_answer
 {
     match Kind::of(kind) {
         Some(k) => answers::counted(rewrite::write_config(cfg, k, out)),
-        None => answers::no(refusal_or(config::read_config(cfg), model::refused(Reason::Sizes, 0, 0))),
+        None => answers::no(refusal_or(
+            config::read_config(cfg),
+            model::refused(Reason::Sizes, 0, 0),
+        )),
     }
 }

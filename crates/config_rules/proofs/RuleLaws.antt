@@ -12,7 +12,7 @@ use lib.ListN.{length, set}
 use Rattle.ground.proofs.Cases.{on_test}
 use Rattle.channel_lines.specs.Channels.{channels_line, analog_line, status_line}
 use Rattle.config_lines.specs.Lines.{station_line, frequency_line, rates_line, rate_line, date_line, kind_line, multiplier_line, codes_line, quality_line}
-use Rattle.config_rules.specs.declared.Taken.{Taken}
+use Rattle.config_rules.specs.Inner.{Taken}
 use Rattle.config_lines.proofs.Laws.{date-said}
 use Rattle.model.specs.declared.Edition.{Edition}
 use Rattle.model.specs.declared.Edition.TheVariants.{Y2013, Y1999}

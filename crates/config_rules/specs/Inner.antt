@@ -15,7 +15,6 @@ use Rattle.clock.specs.Spans.{Calendar, pretrigger_of}
 use Rattle.config_rules.specs.declared.Config.{Config}
 use Rattle.config_rules.specs.declared.Rule.{Rule}
 use Rattle.config_rules.specs.declared.Rule.TheVariants.{Station, Counts, Analog, Status, Frequency, RateCount, Rate, First, Trigger, KindWord, Multiplier, Codes, Quality, Done}
-use Rattle.config_rules.specs.declared.Taken.{Taken}
 use Rattle.config_rules.specs.Shown.{with_layout, with_kind}
 
 -- the line after that of status channel i; where i is 0, the line before the first of them
@@ -113,7 +112,12 @@ qualified q p None = None
 unfoldable pub with_quality : ℕ → ℕ → Config → Config
 with_quality q p c = with_end (qualified q p c.last) c
 
--- the rule of the line after one that is fine, and what is shown so far
+-- a line that was judged and is fine: the rule of the line after it, and what is shown so far
+pub record Taken : Type 0 where
+  pub rule : Rule
+  pub config : Config
+
+-- these two
 abbrev pub taken : Rule → Config → Taken
 taken rule config = record { rule = rule; config = config }
 

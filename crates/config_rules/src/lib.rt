@@ -51,13 +51,6 @@ pub enum Rule {
     Done,
 }
 
-// A line that was judged and is fine: the rule of the line after it, and what is shown so far.
-#[derive(Clone, Copy)]
-pub struct Taken {
-    pub rule: Rule,
-    pub config: Config,
-}
-
 // The rule after that of analog channel i; where i is 0, of the first.
 #[tactic(auto, unfolding(crate::specs::Inner::after_analog))]
 fn after_analog(i: u32, analogs: u32, statuses: u32) -> Rule

@@ -8,9 +8,9 @@ ghost use Rattle.model.specs.Refusals.{numbered};
 ghost use Rattle.line_fields.specs.Faults.{checked, error_number, text_fault, index_fault, real_fault, frequency_fault, above_fault, zero_fault, rate_fault, side_fault, state_fault};
 ghost use Rattle.line_fields.specs.Checks.{has_fields, value_at, fine_at};
 
+use model::Reason;
 use numerals::FieldError;
 use reals::Sign;
-use model::Reason;
 
 // Why a line is refused, and its field; field 0 is the whole line.
 #[derive(Clone, Copy)]

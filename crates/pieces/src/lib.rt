@@ -8,14 +8,15 @@ ghost use Rattle.pieces.specs.Inner.{Put};
 
 use model::Kind;
 
-// The bytes of s are put after the first n.
+// The bytes of s are put after the first n: by a loop, since `copy_from_slice` asks the linker for memmove, and C is promised that memcpy and memset are enough.
 pub fn put_all(out: &mut [u8], n: usize, s: &[u8]) -> usize
     requires { n + length s.now ≤ length out.old }
     ensures { Put out.old n s.now out.new result }
 {
-    let to = n + s.len();
-    out[n..to].copy_from_slice(s);
-    to
+    for i in 0..s.len() {
+        out[n + i] = s[i];
+    }
+    n + s.len()
 }
 
 // The word of a kind, as the standard spells it: at most 8 characters.

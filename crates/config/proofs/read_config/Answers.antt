@@ -9,12 +9,11 @@ use Rattle.ground.proofs.Walk.{rest}
 use Rattle.config_rules.specs.declared.Config.{Config}
 use Rattle.config_rules.specs.Inner.{Ready}
 use Rattle.model.specs.declared.Refusal.{Refusal}
-use Rattle.model.specs.Refusals.{refused}
 use Rattle.config.specs.Inner.{line_left, told_in_line, Step, stepped, step_of}
 use Rattle.config_rules.specs.declared.Rule.{Rule}
 use Rattle.line_fields.specs.declared.Fault.{Fault}
 use Rattle.ground.proofs.Cases.{clash}
-use Rattle.config.specs.Reading.{Place, said_of}
+use Rattle.config.specs.Reading.{Place, said_of, refused_in}
 use Rattle.config.proofs.StepLaws.{step-within, step-ready}
 use Rattle.config.proofs.PaperLaws.{rest_goes, rest-stops, rest-ends, paper-agrees, paper-long}
 use Rattle.config.proofs.read_config.Goals as goal
@@ -45,7 +44,7 @@ step-told n (Ok (a, b)) k (says t) u next e h =
 step-told n (Ok (a, b)) k (refuses f) u next e h = clash (cc)
 step-told n (Err g) k x u next e h = clash (cc)
 
-step-stopped : (n : ℕ) (r : Result (ℕ × Rule) Fault) (k : Config) (x : Said Fault Step) (q : Refusal) → stepped r k ≡ answer_of x → Err q ≡ told_in_line n r → (f : Fault) × (x ≡ refuses f) × (refused f.number n f.field ≡ q)
+step-stopped : (n : ℕ) (r : Result (ℕ × Rule) Fault) (k : Config) (x : Said Fault Step) (q : Refusal) → stepped r k ≡ answer_of x → Err q ≡ told_in_line n r → (f : Fault) × (x ≡ refuses f) × (refused_in n f ≡ q)
 step-stopped n (Ok (a, b)) k x q e h = clash (cc)
 step-stopped n (Err g) k (says t) q e h = clash (cc)
 step-stopped n (Err g) k (refuses f) q e h = (g, cc, cc)

@@ -6,4 +6,5 @@ use Rattle.list_lines.proofs.put_refusal_line.Goals as goal
 pub returns : goal.returns
 unfolding refusal_line
 returns c =
-    put_then (put_then (put_then c.put_named-number.ensures.put c.put_named-place.ensures.put) c.put_named-field.ensures.put) c.put_all.ensures
+    rw (← c.number.ensures)
+    (put_then (put_then (put_then c.put_named-number.ensures.put c.put_named-place.ensures.put) c.put_named-field.ensures.put) c.put_all.ensures)

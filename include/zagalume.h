@@ -44,14 +44,14 @@
  * edition, as tools/stack measures it; on aarch64 as the older kit rattle-kit-5b compiled it:
  *
  *                     x86-64      aarch64
- *     zl_config          1184        1296
- *     zl_write_config    1472        1488
- *     zl_check            272         320
- *     zl_row             5536        2896
+ *     zl_config          1120        1296
+ *     zl_write_config    1408        1488
+ *     zl_check            288         320
+ *     zl_row             4224        2896
  *     zl_write_row       2368        2560
- *     zl_length          2016        1984
- *     zl_change          4240        3504
- *     zl_reason           176         736
+ *     zl_length          1984        1984
+ *     zl_change          4208        3504
+ *     zl_reason           192         736
  */
 #ifndef ZAGALUME_H
 #define ZAGALUME_H

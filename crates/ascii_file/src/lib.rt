@@ -34,34 +34,18 @@ pub fn take_row(layout: Layout, n: u32, rest: &[u8]) -> Result<usize, Refusal>
     requires { Sized layout }
     ensures { result ≡ answer_of (take_row layout n rest.now) }
 {
-    let taken = ascii_walk::row_end(layout, n, rest);
-    if taken < 1 {
-        return check_in_order(layout, n, rest);
+    match ascii_walk::row_end(layout, n, rest) {
+        Some(taken) => Ok(taken),
+        None => check_in_order(layout, n, rest),
     }
-    Ok(taken)
 }
 
 // Whether this may follow the last row.
+#[tactic(auto, unfolding(crate::specs::Files::is_ending))]
 fn is_ending(s: &[u8]) -> bool
     ensures { result ≡ is_ending s.now }
 {
-    let n = s.len();
-    if n == 0 {
-        return true;
-    }
-    if n == 1 {
-        return s[0] == 26;
-    }
-    if n != 3 {
-        return false;
-    }
-    if s[0] != 26 {
-        return false;
-    }
-    if s[1] != 13 {
-        return false;
-    }
-    s[2] == 10
+    matches!(s, [] | [26] | [26, b'\r', b'\n'])
 }
 
 // What follows the last row, where row n would stand.

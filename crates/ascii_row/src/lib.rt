@@ -84,17 +84,11 @@ fn is_sample(layout: Layout, field: &[u8]) -> bool
 }
 
 // Whether a field is a status.
+#[tactic(auto, unfolding(crate::specs::Fields::is_status))]
 fn is_status(field: &[u8]) -> bool
     ensures { result ≡ is_status field.now }
 {
-    if field.len() != 1 {
-        return false;
-    }
-    let b = field[0];
-    if b == 48 {
-        return true;
-    }
-    b == 49
+    matches!(field, [b'0' | b'1'])
 }
 
 // The timestamp of a field.

@@ -1,8 +1,8 @@
 // A row of text, read through in one walk that finds where each field ends as it reads it.
-// A function claims something only where it answers more than 0, or true; where it does not, crate ascii_row says why.
+// A function claims something only where it answers an end, or true; where it does not, crate ascii_row says why.
 #![tactic(auto)]
 
-ghost use Rattle.std.specs.Prelude.{◌≡◌, true, false, ◌&&◌, [], ◌∷◌, ◌+◌, ◌*◌, ◌≤◌, ◌<◌, eqb, length};
+ghost use Rattle.std.specs.Prelude.{◌≡◌, true, false, ◌&&◌, [], ◌∷◌, ◌+◌, ◌*◌, ◌≤◌, ◌<◌, eqb, length, IfSome};
 ghost use Rattle.numerals.specs.Inner.{CountThere};
 ghost use Rattle.model.specs.declared.Layout.{Layout};
 ghost use Rattle.model.specs.Layouts.{Sized};
@@ -13,94 +13,89 @@ ghost use Rattle.ascii_walk.specs.Inner.{TimeThere, SampleThere, StatusThere, Fo
 use ascii_row::LATEST;
 use model::Layout;
 
-// Where the number of row n ends, with which s begins; 0 where it is not read as n.
-fn number_end(n: u32, s: &[u8]) -> usize
-    ensures { 1 ≤ result → CountThere 10 s.now 0 result n }
+// Where the number of row n ends, with which s begins, where it is read as n.
+fn number_end(n: u32, s: &[u8]) -> Option<usize>
+    ensures { IfSome result (λ end. CountThere 10 s.now 0 end n) }
 {
-    let number = numerals::count_at(s, 0, 10);
+    let number = numerals::count_at(s, 0, 10)?;
     if number.value != n as u64 {
-        return 0;
+        return None;
     }
-    number.end
+    Some(number.end)
 }
 
-// Where the timestamp after a comma ends; 0 where none is read.
-fn time_end(s: &[u8], at: usize) -> usize
+// Where the timestamp after a comma ends.
+fn time_end(s: &[u8], at: usize) -> Option<usize>
     requires { at < length s.now }
-    ensures { 1 ≤ result → TimeThere s.now at result }
+    ensures { IfSome result (λ end. TimeThere s.now at end) }
 {
     if s[at] != 44 {
-        return 0;
+        return None;
     }
-    let time = numerals::count_at(s, at + 1, 13);
+    let time = numerals::count_at(s, at + 1, 13)?;
     if LATEST < time.value {
-        return 0;
+        return None;
     }
-    time.end
+    Some(time.end)
 }
 
-// Where an empty field ends that starts at a place; 0 where s ends there, or its text has none.
-fn empty_end(layout: Layout, s: &[u8], at: usize) -> usize
-    ensures { 1 ≤ result → (result ≡ at) × (at < length s.now) × (marked layout ≡ false) }
+// Where an empty field ends that starts at a place; nowhere where s ends there, or its text has none.
+fn empty_end(layout: Layout, s: &[u8], at: usize) -> Option<usize>
+    ensures { IfSome result (λ end. (end ≡ at) × (at < length s.now) × (marked layout ≡ false)) }
 {
     if s.len() <= at {
-        return 0;
+        return None;
     }
     if layout.is_marked() {
-        return 0;
+        return None;
     }
-    at
+    Some(at)
 }
 
-// Where a number ends that is no sample, where it is the mark of a marked text; 0 where it is not.
-fn mark_end(layout: Layout, z: i64, end: usize) -> usize
-    ensures { 1 ≤ result → (result ≡ end) × (marked layout && is_mark z ≡ true) }
+// Where a number ends that is no sample, where it is the mark of a marked text.
+fn mark_end(layout: Layout, z: i64, end: usize) -> Option<usize>
+    ensures { IfSome result (λ e. (e ≡ end) × (marked layout && is_mark z ≡ true)) }
 {
     if !layout.is_marked() {
-        return 0;
+        return None;
     }
     if !model::is_mark(z) {
-        return 0;
+        return None;
     }
-    end
+    Some(end)
 }
 
-// Where the sample after a comma ends; 0 where none is read. Most numbers are samples of every layout, which is asked first. Where no number is read the field is taken as empty: whoever comes next looks at what stands there.
-fn sample_end(layout: Layout, s: &[u8], at: usize) -> usize
+// Where the sample after a comma ends. Most numbers are samples of every layout, which is asked first. Where no number is read the field is taken as empty: whoever comes next looks at what stands there.
+fn sample_end(layout: Layout, s: &[u8], at: usize) -> Option<usize>
     requires { at < length s.now }
-    ensures { 1 ≤ result → SampleThere layout s.now at result }
+    ensures { IfSome result (λ end. SampleThere layout s.now at end) }
 {
     if s[at] != 44 {
-        return 0;
+        return None;
     }
     let first = at + 1;
-    let sample = numerals::whole_at(s, first);
-    if sample.end < 1 {
+    let Some(sample) = numerals::whole_at(s, first) else {
         return empty_end(layout, s, first);
-    }
+    };
     if model::is_short(sample.value) {
-        return sample.end;
+        return Some(sample.end);
     }
     if !layout.holds(sample.value) {
         return mark_end(layout, sample.value, sample.end);
     }
-    sample.end
+    Some(sample.end)
 }
 
-// Where the samples, each after a comma, end; 0 where one is not read.
-fn samples_end(layout: Layout, s: &[u8], at: usize) -> usize
+// Where the samples, each after a comma, end.
+fn samples_end(layout: Layout, s: &[u8], at: usize) -> Option<usize>
     requires { (Sized layout) × (at < length s.now) }
-    ensures { 1 ≤ result → (result < length s.now) × Passed layout s.now 2 at layout.analogs result }
+    ensures { IfSome result (λ end. (end < length s.now) × Passed layout s.now 2 at layout.analogs end) }
 {
     let mut i = at;
     for _ in 0..layout.analogs {
-        let e = sample_end(layout, s, i);
-        if e < 1 {
-            return 0;
-        }
-        i = e;
+        i = sample_end(layout, s, i)?;
     }
-    i
+    Some(i)
 }
 
 // Whether two bytes are a comma and a status.
@@ -152,64 +147,52 @@ fn pass_fours(s: &[u8], at: usize, d: usize) -> usize
     k
 }
 
-// Where d statuses, each after a comma, end; 0 where one is not read.
-fn statuses_end(s: &[u8], at: usize, d: usize) -> usize
+// Where d statuses, each after a comma, end.
+fn statuses_end(s: &[u8], at: usize, d: usize) -> Option<usize>
     requires { (at < length s.now) × (d ≤ 256) }
-    ensures { 1 ≤ result → (result < length s.now) × ((l : Layout) → Passed l s.now (2 + l.analogs) at d result) }
+    ensures { IfSome result (λ end. (end < length s.now) × ((l : Layout) → Passed l s.now (2 + l.analogs) at d end)) }
 {
     if s.len() - at <= 2 * d {
-        return 0;
+        return None;
     }
     for k in pass_fours(s, at, d)..d {
         if !status_there(s, at + 2 * k) {
-            return 0;
+            return None;
         }
     }
-    at + 2 * d
+    Some(at + 2 * d)
 }
 
-// How many bytes a line takes with its CR LF, where it ends at a place; 0 where it does not.
-fn line_end(s: &[u8], end: usize) -> usize
+// How many bytes a line takes with its CR LF, where it ends at a place.
+fn line_end(s: &[u8], end: usize) -> Option<usize>
     requires { end < length s.now }
-    ensures { 1 ≤ result → LineEnd s.now end result }
+    ensures { IfSome result (λ taken. LineEnd s.now end taken) }
 {
     if 1880 < end {
-        return 0;
+        return None;
     }
     let j = end + 1;
     if s.len() <= j {
-        return 0;
+        return None;
     }
     if s[end] != 13 {
-        return 0;
+        return None;
     }
     if s[j] != 10 {
-        return 0;
+        return None;
     }
-    end + 2
+    Some(end + 2)
 }
 
-// How many bytes row n takes, with which s begins, where one walk reads it through; 0 where it does not, which says nothing of the row.
-pub fn row_end(layout: Layout, n: u32, s: &[u8]) -> usize
+// How many bytes row n takes, with which s begins, where one walk reads it through; none says nothing of the row.
+pub fn row_end(layout: Layout, n: u32, s: &[u8]) -> Option<usize>
     requires { Sized layout }
-    ensures { 1 ≤ result → RowThere layout n s.now result }
+    ensures { IfSome result (λ taken. RowThere layout n s.now taken) }
 {
     let d = layout.statuses as usize;
-    let number = number_end(n, s);
-    if number < 1 {
-        return 0;
-    }
-    let time = time_end(s, number);
-    if time < 1 {
-        return 0;
-    }
-    let samples = samples_end(layout, s, time);
-    if samples < 1 {
-        return 0;
-    }
-    let end = statuses_end(s, samples, d);
-    if end < 1 {
-        return 0;
-    }
+    let number = number_end(n, s)?;
+    let time = time_end(s, number)?;
+    let samples = samples_end(layout, s, time)?;
+    let end = statuses_end(s, samples, d)?;
     line_end(s, end)
 }

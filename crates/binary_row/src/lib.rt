@@ -29,7 +29,7 @@ const FULL: u32 = 65535;
 pub fn lesser(a: usize, b: usize) -> usize
     ensures { result ≡ min a b }
 {
-    if a < b { a } else { b }
+    a.min(b)
 }
 
 // Where the samples of a row end.
@@ -173,8 +173,8 @@ pub fn row_of(layout: Layout, bytes: &[u8]) -> Row
     let samples = row_samples(layout, bytes);
     let statuses = statuses_of(d, &bytes[mid..end]);
     Row {
-        time: time,
-        samples: samples,
-        statuses: statuses,
+        time,
+        samples,
+        statuses,
     }
 }

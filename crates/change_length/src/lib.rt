@@ -33,15 +33,7 @@ pub struct Tally {
 pub fn both_binary(old: Kind, new: Kind) -> bool
     ensures { result ≡ both_binary old new }
 {
-    match old {
-        Kind::Ascii => false,
-        Kind::Binary | Kind::Binary32 => {
-            match new {
-                Kind::Ascii => false,
-                Kind::Binary | Kind::Binary32 => true,
-            }
-        }
-    }
+    !matches!(old, Kind::Ascii) && !matches!(new, Kind::Ascii)
 }
 
 // Nothing looked at.
@@ -76,7 +68,7 @@ fn tallied(tally: Tally, n: u32, bad: u32, a: u32, length: usize) -> Tally
 {
     Tally {
         misfit: tally.misfit.or(row_misfit(n, bad, a)),
-        length: length,
+        length,
     }
 }
 
@@ -118,8 +110,7 @@ fn weigh_rows(layout: Layout, kind: Kind, data: &[u8], start: Tally) -> Result<T
 pub fn mark_length(layout: Layout) -> usize
     ensures { result ≡ length (end_mark layout) }
 {
-    let kind = layout.kind;
-    match kind {
+    match layout.kind {
         Kind::Ascii => 3,
         Kind::Binary | Kind::Binary32 => 0,
     }

@@ -9,23 +9,14 @@ use numerals::FieldError;
 fn leap_year(year: u32) -> bool
     ensures { result ≡ leap_year year }
 {
-    if year % 400 == 0 {
-        return true;
-    }
-    if year % 100 == 0 {
-        return false;
-    }
-    year % 4 == 0
+    year % 400 == 0 || (year % 100 != 0 && year % 4 == 0)
 }
 
 #[tactic(auto, unfolding(crate::specs::Dates::short_month))]
 fn short_month(month: u32) -> bool
     ensures { result ≡ short_month month }
 {
-    match month {
-        4 | 6 | 9 | 11 => true,
-        _ => false,
-    }
+    matches!(month, 4 | 6 | 9 | 11)
 }
 
 #[tactic(auto, unfolding(crate::specs::Dates::month_days))]
@@ -43,13 +34,9 @@ fn month_days(year: u32, month: u32) -> u32
 pub fn valid_date(date: Date) -> bool
     ensures { result ≡ valid_date date }
 {
-    if !patterns::between(1900, 9999, date.year) {
-        return false;
-    }
-    if !patterns::between(1, 12, date.month) {
-        return false;
-    }
-    patterns::between(1, month_days(date.year, date.month), date.day)
+    patterns::between(1900, 9999, date.year)
+        && patterns::between(1, 12, date.month)
+        && patterns::between(1, month_days(date.year, date.month), date.day)
 }
 
 #[tactic(auto, unfolding(crate::specs::Dates::date_of))]
@@ -69,13 +56,7 @@ fn date_of(s: &[u8]) -> Date
 fn is_zero_date(date: Date) -> bool
     ensures { result ≡ is_zero_date date }
 {
-    if date.day != 0 {
-        return false;
-    }
-    if date.month != 0 {
-        return false;
-    }
-    date.year == 0
+    date.day == 0 && date.month == 0 && date.year == 0
 }
 
 // A field as a date: no date where it is 00/00/0000.

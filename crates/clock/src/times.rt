@@ -10,16 +10,7 @@ use numerals::FieldError;
 pub fn valid_time(time: Time) -> bool
     ensures { result ≡ valid_time time }
 {
-    if 24 <= time.hour {
-        return false;
-    }
-    if 60 <= time.minute {
-        return false;
-    }
-    if 60 <= time.second {
-        return false;
-    }
-    time.nanosecond < 1_000_000_000
+    time.hour < 24 && time.minute < 60 && time.second < 60 && time.nanosecond < 1_000_000_000
 }
 
 #[tactic(auto, unfolding(crate::specs::Times::time_form))]
@@ -77,16 +68,7 @@ pub fn read_time(field: &[u8]) -> Result<Time, FieldError>
 pub fn is_zero_time(time: Time) -> bool
     ensures { result ≡ is_zero_time time }
 {
-    if time.hour != 0 {
-        return false;
-    }
-    if time.minute != 0 {
-        return false;
-    }
-    if time.second != 0 {
-        return false;
-    }
-    time.nanosecond == 0
+    time.hour == 0 && time.minute == 0 && time.second == 0 && time.nanosecond == 0
 }
 
 // The whole seconds of the day that are gone.

@@ -84,10 +84,7 @@ fn hours_of(minus: bool, s: &[u8]) -> Result<Code, FieldError>
 fn small_x(local: bool, s: &[u8]) -> bool
     ensures { result ≡ small_x local s.now }
 {
-    if local {
-        return patterns::fits_pattern(b"x", s);
-    }
-    false
+    local && patterns::fits_pattern(b"x", s)
 }
 
 // What stands after the leading spaces.

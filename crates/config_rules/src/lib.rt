@@ -2,7 +2,7 @@
 // Each function gives exactly what the definition of its name says, on any bytes; the rule of a line is found from what the lines before it said, never from the bytes.
 #![tactic(auto)]
 
-ghost use Rattle.std.specs.Prelude.{◌≡◌};
+ghost use Rattle.std.specs.Prelude.{◌≡◌, OnErr};
 ghost use Rattle.ground.specs.Said.{answer_of};
 ghost use Rattle.config_rules.specs.Inner.{after_analog, after_status, after_rate, after_multiplier, with_last, qualified, taken_by, take_line, Ready};
 
@@ -109,7 +109,8 @@ fn put_last(c: &mut Config, i: u32, last: u32)
 // Station, device, year.
 #[tactic(auto, unfolding(crate::specs::Inner::take_line, crate::specs::Inner::with_edition))]
 fn take_station(line: &[u8], c: &mut Config) -> Result<Rule, Fault>
-    ensures { taken_by result c.new ≡ answer_of (take_line Rule.Station c.old line.now) }
+    ensures value { taken_by result c.new ≡ answer_of (take_line Rule.Station c.old line.now) }
+    ensures unchanged { OnErr result (c.new ≡ c.old) }
 {
     let edition = config_lines::station_line(line)?;
     c.layout.edition = edition;
@@ -119,7 +120,8 @@ fn take_station(line: &[u8], c: &mut Config) -> Result<Rule, Fault>
 // TT, A and D: what is left to read follows from them.
 #[tactic(auto, unfolding(crate::specs::Inner::take_line, crate::specs::Inner::with_counts))]
 fn take_counts(line: &[u8], c: &mut Config) -> Result<Rule, Fault>
-    ensures { taken_by result c.new ≡ answer_of (take_line Rule.Counts c.old line.now) }
+    ensures value { taken_by result c.new ≡ answer_of (take_line Rule.Counts c.old line.now) }
+    ensures unchanged { OnErr result (c.new ≡ c.old) }
 {
     let (analogs, statuses) = channel_lines::channels_line(line)?;
     let a = analogs as u32;
@@ -132,7 +134,8 @@ fn take_counts(line: &[u8], c: &mut Config) -> Result<Rule, Fault>
 // The number of rates.
 #[tactic(auto, unfolding(crate::specs::Inner::take_line, crate::specs::Inner::with_rates))]
 fn take_rate_count(line: &[u8], c: &mut Config) -> Result<Rule, Fault>
-    ensures { taken_by result c.new ≡ answer_of (take_line Rule.RateCount c.old line.now) }
+    ensures value { taken_by result c.new ≡ answer_of (take_line Rule.RateCount c.old line.now) }
+    ensures unchanged { OnErr result (c.new ≡ c.old) }
 {
     let rates = config_lines::rates_line(line)?;
     let e = rates as u32;
@@ -143,7 +146,8 @@ fn take_rate_count(line: &[u8], c: &mut Config) -> Result<Rule, Fault>
 // A rate and its last row, which must be above the one before it.
 #[tactic(auto, unfolding(crate::specs::Inner::take_line))]
 fn take_rate(line: &[u8], c: &mut Config, i: u32) -> Result<Rule, Fault>
-    ensures { taken_by result c.new ≡ answer_of (take_line (Rule.Rate i) c.old line.now) }
+    ensures value { taken_by result c.new ≡ answer_of (take_line (Rule.Rate i) c.old line.now) }
+    ensures unchanged { OnErr result (c.new ≡ c.old) }
 {
     let last = config_lines::rate_line(line, c.rates == 0, c.layout.rows as u64)?;
     let rates = c.rates;
@@ -154,7 +158,8 @@ fn take_rate(line: &[u8], c: &mut Config, i: u32) -> Result<Rule, Fault>
 // The first sample's date and time, or that it has none; of the trigger nothing is known yet.
 #[tactic(auto, unfolding(crate::specs::Inner::take_line))]
 fn take_first(line: &[u8], c: &mut Config) -> Result<Rule, Fault>
-    ensures { taken_by result c.new ≡ answer_of (take_line Rule.First c.old line.now) }
+    ensures value { taken_by result c.new ≡ answer_of (take_line Rule.First c.old line.now) }
+    ensures unchanged { OnErr result (c.new ≡ c.old) }
 {
     let first = config_lines::date_line(line)?;
     c.first = first;
@@ -167,7 +172,8 @@ fn take_first(line: &[u8], c: &mut Config) -> Result<Rule, Fault>
 #[tactic(auto, unfolding(crate::specs::Inner::take_line))]
 fn take_trigger(line: &[u8], c: &mut Config) -> Result<Rule, Fault>
     requires { Ready Rule.Trigger c.old }
-    ensures { taken_by result c.new ≡ answer_of (take_line Rule.Trigger c.old line.now) }
+    ensures value { taken_by result c.new ≡ answer_of (take_line Rule.Trigger c.old line.now) }
+    ensures unchanged { OnErr result (c.new ≡ c.old) }
 {
     let trigger = config_lines::date_line(line)?;
     let pretrigger = clock::pretrigger_of(c.first, trigger);
@@ -179,7 +185,8 @@ fn take_trigger(line: &[u8], c: &mut Config) -> Result<Rule, Fault>
 // The kind's word.
 #[tactic(auto, unfolding(crate::specs::Inner::take_line, crate::specs::Shown::with_kind))]
 fn take_kind(line: &[u8], c: &mut Config) -> Result<Rule, Fault>
-    ensures { taken_by result c.new ≡ answer_of (take_line Rule.KindWord c.old line.now) }
+    ensures value { taken_by result c.new ≡ answer_of (take_line Rule.KindWord c.old line.now) }
+    ensures unchanged { OnErr result (c.new ≡ c.old) }
 {
     let kind = config_lines::kind_line(line, c.layout.edition)?;
     c.layout.kind = kind;
@@ -198,7 +205,8 @@ fn take_multiplier(line: &[u8], c: &Config) -> Result<Rule, Fault>
 // The two time codes.
 #[tactic(auto, unfolding(crate::specs::Inner::take_line, crate::specs::Inner::with_codes))]
 fn take_codes(line: &[u8], c: &mut Config) -> Result<Rule, Fault>
-    ensures { taken_by result c.new ≡ answer_of (take_line Rule.Codes c.old line.now) }
+    ensures value { taken_by result c.new ≡ answer_of (take_line Rule.Codes c.old line.now) }
+    ensures unchanged { OnErr result (c.new ≡ c.old) }
 {
     let (code, x, local) = config_lines::codes_line(line)?;
     let lines = LastLines {
@@ -228,7 +236,8 @@ fn qualified(last: Option<LastLines>, quality: u32, leap: u32) -> Option<LastLin
 // Quality and leap second code, on the last line.
 #[tactic(auto, unfolding(crate::specs::Inner::take_line, crate::specs::Inner::with_quality))]
 fn take_quality(line: &[u8], c: &mut Config) -> Result<Rule, Fault>
-    ensures { taken_by result c.new ≡ answer_of (take_line Rule.Quality c.old line.now) }
+    ensures value { taken_by result c.new ≡ answer_of (take_line Rule.Quality c.old line.now) }
+    ensures unchanged { OnErr result (c.new ≡ c.old) }
 {
     let (quality, leap) = config_lines::quality_line(line)?;
     let last = qualified(c.last, quality as u32, leap as u32);
@@ -240,7 +249,8 @@ fn take_quality(line: &[u8], c: &mut Config) -> Result<Rule, Fault>
 #[tactic(auto, unfolding(crate::specs::Inner::take_line))]
 pub fn take_line(line: &[u8], rule: Rule, c: &mut Config) -> Result<Rule, Fault>
     requires { Ready rule c.old }
-    ensures { taken_by result c.new ≡ answer_of (take_line rule c.old line.now) }
+    ensures value { taken_by result c.new ≡ answer_of (take_line rule c.old line.now) }
+    ensures unchanged { OnErr result (c.new ≡ c.old) }
 {
     match rule {
         Rule::Station => take_station(line, c),

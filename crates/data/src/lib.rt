@@ -18,10 +18,7 @@ use model::{Kind, Layout, Reason, Refusal, Row};
 pub fn has_row(layout: Layout, n: u32) -> bool
     ensures { result ≡ has_row layout n }
 {
-    if n < 1 {
-        return false;
-    }
-    n <= layout.rows
+    (1..=layout.rows).contains(&n)
 }
 
 // Whether a data file is accepted, or the first refusal.

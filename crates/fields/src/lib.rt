@@ -15,13 +15,11 @@ fn in_range(count: Option<u64>, low: u64, high: u64) -> Result<u64, FieldError>
     ensures { result ≡ in_range low high count }
 {
     let v = count.ok_or(FieldError::Form)?;
-    if v < low {
-        return Err(FieldError::Range);
+    if low <= v && v <= high {
+        Ok(v)
+    } else {
+        Err(FieldError::Range)
     }
-    if high < v {
-        return Err(FieldError::Range);
-    }
-    Ok(v)
 }
 
 // A count of 1 to `most` characters, low to high.
@@ -86,7 +84,7 @@ pub fn read_one_of(field: &[u8], allowed: &[u8]) -> Result<u64, FieldError>
 fn less(b: u64, k: u64) -> u64
     ensures { result ≡ b - k }
 {
-    if b < k { 0 } else { b - k }
+    b.saturating_sub(k)
 }
 
 // What a digit is worth, a hexadecimal one in either case.
@@ -149,13 +147,7 @@ pub fn read_leap(field: &[u8]) -> Result<u64, FieldError>
 fn small(b: u8) -> u8
     ensures { result ≡ small b }
 {
-    if b < 65 {
-        return b;
-    }
-    if 90 < b {
-        return b;
-    }
-    b + 32
+    b.to_ascii_lowercase()
 }
 
 // Whether the field is the word, which is in small letters, in any case.

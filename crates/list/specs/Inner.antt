@@ -1,16 +1,14 @@
 -- NOTHING TO BELIEVE HERE: what the functions say that read a file, so that what is handed on is a part of the room; what a file holds no contract can say.
 -- What a reader has left and what a writer holds is said where it is known, as of bytes in memory.
-use Rattle.std.specs.Prelude.{◌≡◌, ◌≢◌, ◌⊎◌, ℕ, ◌≤◌, ◌<◌, List, ◌++◌, length, take, codes, Option}
+use Rattle.std.specs.Prelude.{◌≡◌, ◌≢◌, ◌⊎◌, ℕ, ◌≤◌, ◌<◌, List, ◌++◌, length, take, codes, Option, Some, None}
 use Rattle.std.specs.Io.KnownBytes.{Consumes, IsAtEnd}
 use Rattle.std.specs.declared.env.FillError.{FillError}
 use Rattle.std.specs.declared.env.FillError.TheVariants.{NotPresent, TooLong}
-use Rattle.list.specs.declared.Got.{Got}
-use Rattle.list.specs.declared.Got.TheVariants.{Bytes, Failed}
 
 -- no more bytes were read than there was room for
-abbrev pub Within : ℕ → Got → Type 0
-Within n (Bytes k) = k ≤ n
-Within n Failed = Unit {0}
+abbrev pub Within : ℕ → Option ℕ → Type 0
+Within n (Some k) = k ≤ n
+Within n None = Unit {0}
 
 -- the first n bytes of the room are the reader's next ones, and if there is room left they are all of them
 abbrev pub FirstBytes : Option (List ℕ) → Option (List ℕ) → List ℕ → ℕ → Type 0

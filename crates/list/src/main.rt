@@ -32,13 +32,6 @@ const INVALID_ARGUMENT: i32 = 22;
 
 const NAME_TOO_LONG: i32 = 36;
 
-// So many bytes were read, or none for a reason that was told.
-#[derive(Clone, Copy)]
-enum Got {
-    Bytes(usize),
-    Failed,
-}
-
 // Room for a file.
 fn empty_room() -> [u8; FILE_ROOM]
     ensures { 65537 ≡ length result }
@@ -84,13 +77,13 @@ fn put_fault<W: Write>(err: &mut W, what: &[u8], path: &[u8], why: &str) -> io::
 }
 
 // Says which file can't be read, and why.
-fn fail<W: Write>(err: &mut W, what: &[u8], path: &[u8], why: &io::Error) -> Got
-    ensures { result ≡ Got.Failed }
+fn fail<W: Write>(err: &mut W, what: &[u8], path: &[u8], why: &io::Error) -> Option<usize>
+    ensures { result ≡ None }
 {
     let mut message = ArrayString::<WORDS_ROOM>::new();
     let _ = fmt::Write::write_fmt(&mut message, why);
     let _ = put_fault(err, what, path, words(message.as_str()));
-    Got::Failed
+    None
 }
 
 // Reads the file of a name, which has to be UTF-8.
@@ -104,18 +97,18 @@ fn try_read_file<R: Files>(files: &R, path: &[u8], room: &mut [u8]) -> io::Resul
     read_all(&mut file, room)
 }
 
-// Reads the file of a name.
+// Reads the file of a name, so many bytes, or none for a reason that it tells.
 fn read_file<R: Files, W: Write>(
     files: &R,
     err: &mut W,
     what: &[u8],
     path: &[u8],
     room: &mut [u8],
-) -> Got
+) -> Option<usize>
     ensures { Within (length room.old) result }
 {
     match try_read_file(files, path, room) {
-        Ok(n) => Got::Bytes(n),
+        Ok(n) => Some(n),
         Err(why) => fail(err, what, path, &why),
     }
 }
@@ -137,7 +130,7 @@ fn read_argument<R: Env + Files, W: Write>(
     what: &[u8],
     i: usize,
     room: &mut [u8],
-) -> Got
+) -> Option<usize>
     ensures { Within (length room.old) result }
 {
     let mut path = [0; PATH_ROOM];
@@ -170,13 +163,11 @@ fn run<R: Env + Files, O: Write, W: Write>(rt: &R, out: &mut O, err: &mut W) {
         return;
     }
     let mut cfg = empty_room();
-    let first = read_argument(rt, err, b"list: configuration ", 1, &mut cfg);
-    let Got::Bytes(n) = first else {
+    let Some(n) = read_argument(rt, err, b"list: configuration ", 1, &mut cfg) else {
         return;
     };
     let mut dat = empty_room();
-    let second = read_argument(rt, err, b"list: data file ", 2, &mut dat);
-    let Got::Bytes(m) = second else {
+    let Some(m) = read_argument(rt, err, b"list: data file ", 2, &mut dat) else {
         return;
     };
     match print(out, &cfg[..n], &dat[..m]) {

@@ -10,10 +10,11 @@ ghost use Rattle.patterns.specs.Patterns.{fits_character, fits_pattern, digits_a
 fn fits_character(p: u8, b: u8) -> bool
     ensures { result ≡ fits_character p b }
 {
-    if p == 100 {
-        return numerals::is_digit(b);
+    if p == b'd' {
+        numerals::is_digit(b)
+    } else {
+        b == p
     }
-    b == p
 }
 
 // Whether the characters fit the pattern: as many, and each at its place.
@@ -40,8 +41,5 @@ pub fn digits_at(s: &[u8], from: usize, to: usize) -> u32
 pub fn between(least: u32, most: u32, n: u32) -> bool
     ensures { result ≡ between least most n }
 {
-    if n < least {
-        return false;
-    }
-    n <= most
+    (least..=most).contains(&n)
 }

@@ -43,7 +43,7 @@ fn fraction_length(s: &[u8]) -> usize
     if s.len() == 0 {
         return 0;
     }
-    if s[0] != 46 {
+    if s[0] != b'.' {
         return 0;
     }
     let after = leading_digits(&s[1..]);
@@ -70,10 +70,7 @@ fn mantissa_length(s: &[u8]) -> usize
 fn is_e(b: u8) -> bool
     ensures { result ≡ is_e b }
 {
-    if b == 101 {
-        return true;
-    }
-    b == 69
+    matches!(b, b'e' | b'E')
 }
 
 // 1 to 3 digits.
@@ -142,10 +139,7 @@ fn real_form(s: &[u8]) -> Option<u64>
 fn is_nought(b: u8) -> bool
     ensures { result ≡ is_nought b }
 {
-    if b == 48 {
-        return true;
-    }
-    b == 46
+    matches!(b, b'0' | b'.')
 }
 
 // Whether a mantissa is zero.
@@ -242,7 +236,7 @@ fn digits_of(m: &[u8]) -> u64
     let mut v = 0;
     for b in m {
         if numerals::is_digit(*b) {
-            v = 10 * v + numerals::wide(*b - 48);
+            v = 10 * v + numerals::wide(*b - b'0');
         }
     }
     v
@@ -270,7 +264,7 @@ fn exact_of(minus: bool, e: u64, s: &[u8]) -> Exact
     let m = mantissa_length(s);
     let p = decimal_places(s) as u64;
     Exact {
-        minus: minus,
+        minus,
         digits: digits_of(&s[..m]),
         scale: e - p,
     }

@@ -100,13 +100,7 @@ pub fn put_row(layout: Layout, row: Row, d: &mut [i64])
 fn up_to(most: i64, z: i64) -> bool
     ensures { result ≡ up_to most z }
 {
-    if z < 0 {
-        return false;
-    }
-    if most < z {
-        return false;
-    }
-    true
+    (0..=most).contains(&z)
 }
 
 // Whether the place of a sample may hold z. Most samples are samples of every layout, which is asked first.
@@ -114,13 +108,7 @@ fn up_to(most: i64, z: i64) -> bool
 fn fits_sample(layout: Layout, z: i64) -> bool
     ensures { result ≡ fits_sample layout z }
 {
-    if model::is_short(z) {
-        return true;
-    }
-    if is_none(z) {
-        return true;
-    }
-    layout.holds(z)
+    model::is_short(z) || is_none(z) || layout.holds(z)
 }
 
 // Whether place i may hold z.
@@ -199,8 +187,8 @@ pub fn row_of_places(layout: Layout, zs: &[i64]) -> Row
     let samples = samples_of(&zs[1..mid]);
     let statuses = statuses_of(&zs[mid..end]);
     Row {
-        time: time,
-        samples: samples,
-        statuses: statuses,
+        time,
+        samples,
+        statuses,
     }
 }

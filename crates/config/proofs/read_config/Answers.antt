@@ -51,7 +51,7 @@ step-stopped n (Err g) k (refuses f) q e h = (g, cc, cc)
 
 -- it was judged
 judged : (c : After-take_step) → stepped c.take_step.result c.take_step.new.config ≡ answer_of (step_of c.loop-rule.rule c.loop-rule.config (left c))
-judged c = c.take_step.ensures ∙ rw rest
+judged c = c.take_step.ensures.value ∙ rw rest
 
 -- the line that was judged
 abbrev line : In_ok-used → Step
@@ -60,7 +60,7 @@ line c = record { used = c.in_ok-used.used; rule = c.in_ok-used.next; config = c
 -- and is fine
 fine : (c : In_ok-used) → step_of c.loop-rule.rule c.loop-rule.config (drop c.loop-rule.at c.args.cfg.now) ≡ says (line c)
 fine c =
-    let e : stepped c.take_step.result c.take_step.new.config ≡ answer_of (step_of c.loop-rule.rule c.loop-rule.config (drop c.loop-rule.at c.args.cfg.now)) = c.take_step.ensures ∙ rw rest in
+    let e : stepped c.take_step.result c.take_step.new.config ≡ answer_of (step_of c.loop-rule.rule c.loop-rule.config (drop c.loop-rule.at c.args.cfg.now)) = c.take_step.ensures.value ∙ rw rest in
     step-told c.loop-rule.n c.take_step.result _ _ c.in_ok-used.used c.in_ok-used.next e c.in_ok-used.ensures
 
 -- so it takes a byte at least and no more than there are

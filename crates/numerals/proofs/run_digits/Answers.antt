@@ -18,13 +18,12 @@ digit c = digit-bounds _ (sym c.is_digit.ensures ∙ c.if-not-is_digit.false)
 pub returns-then-not-is_digit : goal.returns-then-not-is_digit
 returns-then-not-is_digit c =
     let inv = c.loop-i.invariant in
-    rw (c.ended.ensures.0, c.ended.ensures.1)
-    (record {
+    record {
       from = omega arith;
       to = omega arith;
       worth = inv.1 _ (omega arith) (omega arith) ∙ rw part_none;
       stops = λ x h k. inv.1 x (omega arith) k ∙ no_digit c.args.s.now _ x h (omega arith) _ (sym c.is_digit.ensures ∙ c.if-not-is_digit.true);
-    })
+    }
 
 pub overflow_mul-value : goal.overflow_mul-value
 overflow_mul-value c = let h = cap 18 _ _ (omega arith) c.loop-i.invariant.0 in omega arith

@@ -8,9 +8,6 @@ use Rattle.numerals.proofs.CountLaws.{sign-within}
 use Rattle.numerals.proofs.WalkLaws.{whole-there, run-below}
 use Rattle.numerals.proofs.whole_at.Goals as goal
 
-pub returns-then-lim-i : goal.returns-then-lim-i
-returns-then-lim-i c = λ h. absurd (omega (arith, c.whole_ended.ensures.0))
-
 pub overflow_add-j : goal.overflow_add-j
 overflow_add-j c = omega (arith, c.sign_taken.ensures, sign-within (get_or c.args.s.now c.skip_spaces-i.result 0 ∷ []))
 
@@ -19,20 +16,14 @@ run_digits-run-requires c =
     let w = sign-within (get_or c.args.s.now c.skip_spaces-i.result 0 ∷ []) in
     (omega (arith, c.sign_taken.ensures, w), omega arith, omega arith)
 
-pub returns-then-run-j : goal.returns-then-run-j
-returns-then-run-j c = λ h. absurd (omega (arith, c.whole_ended-then-run-j.ensures.0))
-
-pub returns-then-lim-run : goal.returns-then-lim-run
-returns-then-lim-run c = λ h. absurd (omega (arith, c.whole_ended-then-lim-run.ensures.0))
-
 pub signed-requires : goal.signed-requires
 signed-requires c =
     run-below c.args.s.now _ _ _ _ c.run_digits-run.ensures (omega arith) (omega arith)
 
 pub returns : goal.returns
-returns c = λ h.
+returns c =
     let number = c.signed in
-    rw (c.whole_ended-2.ensures.0, c.whole_ended-2.ensures.1, to_z-of_z w64 number.result (record { sfits = number.type_inv }), number.ensures)
+    rw (to_z-of_z w64 number.result (record { sfits = number.type_inv }), number.ensures)
     (whole-there c.args.s.now _ _ c.skip_spaces-i.result _ _ c.skip_spaces-i.ensures
     (rw c.sign_taken.ensures at c.run_digits-run.ensures) (omega (arith, c.sign_taken.ensures, c.if-run-j.false))
     c.if-lim-run.false c.limit-lim.ensures.1 (omega arith))

@@ -51,7 +51,7 @@
  *     zl_write_row       2368        2560
  *     zl_length          1984        1984
  *     zl_change          4208        3504
- *     zl_reason           192         736
+ *     zl_reason            16         736
  */
 #ifndef ZAGALUME_H
 #define ZAGALUME_H

@@ -1,20 +1,33 @@
--- `put_reason` meets its contract: the texts of the table are those of the definition, one after the other, which is computed; every other number is refused.
-use mathlib.Core.Path.{◌≡◌, refl}
-use mathlib.Core.Logic.{◌⊎◌, inl, inr}
-use Prim.Native.Nat.{◌+◌, ◌-◌, ◌<◌}
-use native.Mathlib.Omega.{arith}
-use lib.ListN.{length}
-use Rattle.reasons.proofs.Laws.{reason-told, reason-untold}
+-- The text that is written is the number's.
+use Rattle.std.proofs.Common.{◌≡◌, refl, length}
+use Rattle.ground.specs.Said.{says}
+use Rattle.reasons.specs.Reasons.{reason_of, reason_said, text_said}
 use Rattle.reasons.proofs.put_reason.Goals as goal
-use Rattle.reasons.proofs.put_reason.Goals.{in_default-via-then-number-lt1, in_default-via-else-number-lt1+else-number-lt18}
+use Rattle.reasons.proofs.put_reason.Goals.{in-1, in-2, in-3, in-4, in-5, in-6, in-7, in-8, in-9, in-10, in-11, in-12, in-13, in-14, in-15, in-16, in-17}
 
-pub returns-in-1-to-17 : goal.returns-in-1-to-17
-returns-in-1-to-17 c =
-    let e : c.args.number - 1 + 1 ≡ c.args.number = omega arith in
-    let t = reason-told (c.args.number - 1) (length c.args.out.now) (omega arith) in
-    rw (rw e at t) c.say_from.ensures
-
-pub returns-in_default : goal.returns-in_default
-returns-in_default c =
-    let outside : (c.args.number < 1) ⊎ (17 < c.args.number) = elim c.in_default.branch [ in_default-via-then-number-lt1 w ↦ inl (omega arith) | in_default-via-else-number-lt1+else-number-lt18 w ↦ inr (omega arith) ] in
-    rw (c.refused.ensures, reason-untold c.args.number (length c.args.out.now) outside) record { value = (refl, tt); out_after = refl }
+pub returns : goal.returns
+unfolding reason_of reason_said
+returns c =
+    let text : reason_of c.args.number ≡ says c.match-number.text.now
+    = elim c.match-number.branch [
+      | in-1 w ↦ rw (w.in-1.is, w.text-is) refl
+      | in-2 w ↦ rw (w.in-2.is, w.text-is) refl
+      | in-3 w ↦ rw (w.in-3.is, w.text-is) refl
+      | in-4 w ↦ rw (w.in-4.is, w.text-is) refl
+      | in-5 w ↦ rw (w.in-5.is, w.text-is) refl
+      | in-6 w ↦ rw (w.in-6.is, w.text-is) refl
+      | in-7 w ↦ rw (w.in-7.is, w.text-is) refl
+      | in-8 w ↦ rw (w.in-8.is, w.text-is) refl
+      | in-9 w ↦ rw (w.in-9.is, w.text-is) refl
+      | in-10 w ↦ rw (w.in-10.is, w.text-is) refl
+      | in-11 w ↦ rw (w.in-11.is, w.text-is) refl
+      | in-12 w ↦ rw (w.in-12.is, w.text-is) refl
+      | in-13 w ↦ rw (w.in-13.is, w.text-is) refl
+      | in-14 w ↦ rw (w.in-14.is, w.text-is) refl
+      | in-15 w ↦ rw (w.in-15.is, w.text-is) refl
+      | in-16 w ↦ rw (w.in-16.is, w.text-is) refl
+      | in-17 w ↦ rw (w.in-17.is, w.text-is) refl
+    ] in
+    let said : reason_said c.args.number (length c.args.out.now) ≡ text_said c.match-number.text.now (length c.args.out.now)
+    = rw text refl in
+    rw said c.say_text.ensures

@@ -35,10 +35,10 @@ abbrev pub told_shown : {A : Type 0} → Said Refusal (List A) → zl_answer
 told_shown (says zs) = yes 0
 told_shown (refuses r) = no r
 
--- a kind by its number; 10 for a number that no kind has
-abbrev pub kind_said : Option Kind → Said Refusal Kind
-kind_said (Some k) = says k
-kind_said None = refuses (refused 10 0 0)
+-- what numbers say, a kind or a layout; 10 for a number that no kind has, and for a year that no edition has
+abbrev pub known : {A : Type 0} → Option A → Said Refusal A
+known (Some a) = says a
+known None = refuses (refused 10 0 0)
 
 -- the layout of three numbers, a kind and an edition
 abbrev pub layout_by : ℕ → ℕ → ℕ → Kind → Edition → Layout
@@ -53,11 +53,6 @@ layout_in a d rows None e = None
 -- the layout of five numbers: the kind by its number, the edition by its year
 unfoldable pub layout_of : ℕ → ℕ → ℕ → ℕ → ℕ → Option Layout
 layout_of a d rows kind edition = layout_in a d rows (kind_of kind) (edition_of edition)
-
--- such a layout; 10 for a number that no kind has, and for a year that no edition has
-abbrev pub layout_said : Option Layout → Said Refusal Layout
-layout_said (Some l) = says l
-layout_said None = refuses (refused 10 0 0)
 
 -- places that fit the room: 17 where they do not
 abbrev pub placed : {A : Type 0} → ℕ → List A → ℕ → Said Refusal (List A)

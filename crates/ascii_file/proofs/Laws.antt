@@ -3,7 +3,7 @@
 --     row-takes-told                  a row that is fine: its line, and that it lies within the text
 --     row-takes                       a row that one walk read through is fine
 --     rows-turn                       a turn of the check over the rows
---     line-within, line-taken-within  the line that a text begins with lies within it
+--     line-taken-within               the line that a text begins with lies within it
 --     rows_none, rows-after           what follows the first i rows, from one to the next
 -- Assumes nothing.
 use mathlib.Core.Path.{◌≡◌, refl, sym, ap, ◌∙◌}
@@ -68,9 +68,6 @@ within-from : (s : List ℕ) (r : Result Line LineError) → Found 1880 s r → 
 within-from s (Ok one) f = (omega (arith, f.1.within, f.0), f.1.within)
 within-from s (Err Ends) f = (omega arith, omega arith)
 within-from s (Err Bad) f = (omega arith, omega arith)
-
-pub line-within : (s : List ℕ) → line_length (scan_row s) ≤ length s
-line-within s = (within-from s (scan_row s) (scan-found 1880 s)).0
 
 pub line-taken-within : (s : List ℕ) → line_taken (scan_row s) ≤ length s
 line-taken-within s = (within-from s (scan_row s) (scan-found 1880 s)).1

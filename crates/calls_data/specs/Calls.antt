@@ -8,19 +8,19 @@ use Rattle.model.specs.Layouts.{is_sized}
 use Rattle.model.specs.Refusals.{refused}
 use Rattle.data.specs.Files.{check_file, show_row, has_row, write_said}
 use Rattle.row_places.specs.Rows.{places_of, row_places, unfit, row_of_places}
-use Rattle.answers.specs.Answers.{layout_of, layout_said, placed}
+use Rattle.answers.specs.Answers.{layout_of, known, placed}
 
 -- zl_check: whether a data file is accepted
 unfoldable pub check_call : ℕ → ℕ → ℕ → ℕ → ℕ → List ℕ → Said Refusal ℕ
 check_call a d rows kind edition s = do
-  l ← layout_said (layout_of a d rows kind edition)
+  l ← known (layout_of a d rows kind edition)
   answer_said (check_file l s)
   says 0
 
 -- zl_row: the places of row n; no room last of all
 unfoldable pub row_call : ℕ → ℕ → ℕ → ℕ → ℕ → List ℕ → ℕ → ℕ → Said Refusal (List ℤ)
 row_call a d rows kind edition s n room = do
-  l ← layout_said (layout_of a d rows kind edition)
+  l ← known (layout_of a d rows kind edition)
   r ← answer_said (show_row l s n)
   placed (places_of l) (row_places l r) room
 
@@ -36,6 +36,6 @@ row_asked l n zs = do
 -- zl_write_row: the bytes that row n is written in; no room last of all
 unfoldable pub write_call : ℕ → ℕ → ℕ → ℕ → ℕ → ℕ → List ℤ → ℕ → Said Refusal (List ℕ)
 write_call a d rows kind edition n zs room = do
-  l ← layout_said (layout_of a d rows kind edition)
+  l ← known (layout_of a d rows kind edition)
   r ← row_asked l n zs
   write_said l n r room

@@ -5,11 +5,11 @@ use Rattle.model.specs.declared.Refusal.{Refusal}
 use Rattle.model.specs.Kinds.{kind_of}
 use Rattle.config.specs.Config.{read_config}
 use Rattle.rewrite.specs.Rewrite.{rewrite_said}
-use Rattle.answers.specs.Answers.{kind_said}
+use Rattle.answers.specs.Answers.{known}
 
 -- zl_write_config: the reader's refusals, then 10 for a kind's number that no kind has, then those of the writer
 unfoldable pub write_config_call : List ℕ → ℕ → ℕ → Said Refusal (List ℕ)
 write_config_call s kind room = do
   c ← answer_said (read_config s)
-  k ← kind_said (kind_of kind)
+  k ← known (kind_of kind)
   rewrite_said s k room

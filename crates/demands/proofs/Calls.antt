@@ -50,7 +50,7 @@ use Rattle.config_places.proofs.ConfigLaws.{config-places}
 use Rattle.row_places.proofs.RowLaws.{row-places, places-back}
 use Rattle.reasons.specs.Reasons.{reason_of, text_said, reason_said}
 use Rattle.answers.specs.declared.zl_answer.{zl_answer}
-use Rattle.answers.specs.Answers.{told, told_written, told_shown, kind_said, layout_of, layout_said, placed}
+use Rattle.answers.specs.Answers.{told, told_written, told_shown, known, layout_of, placed}
 use Rattle.calls_config.specs.Calls.{config_call}
 use Rattle.calls_data.specs.Calls.{check_call, row_call, row_asked, write_call}
 use Rattle.calls_data.specs.Inner.{row_in, write_in}
@@ -113,19 +113,19 @@ row_within l s n = bind-within (answer_said (show_row l s n)) (λ r. placed (pla
 
 row-call-within : (a d rows kind edition : ℕ) (s : List ℕ) (n : ℕ) → Within (row_call a d rows kind edition s n)
 unfolding row_call row_in
-row-call-within a d rows kind edition s n = bind-within (layout_said (layout_of a d rows kind edition)) (λ l. row_in l s n) (λ l. row_within l s n)
+row-call-within a d rows kind edition s n = bind-within (known (layout_of a d rows kind edition)) (λ l. row_in l s n) (λ l. row_within l s n)
 
 write-call-within : (a d rows kind edition n : ℕ) (zs : List ℤ) → Within (write_call a d rows kind edition n zs)
 unfolding write_call write_in
 write-call-within a d rows kind edition n zs =
-    bind-within (layout_said (layout_of a d rows kind edition)) (λ l. write_in l n zs) (λ l.
+    bind-within (known (layout_of a d rows kind edition)) (λ l. write_in l n zs) (λ l.
     bind-within (row_asked l n zs) (write_said l n) (write-within l n))
 
 change-call-within : (a d rows kind edition : ℕ) (s : List ℕ) (new : ℕ) → Within (change_call a d rows kind edition s new)
 unfolding change_call change_in
 change-call-within a d rows kind edition s new =
-    bind-within (layout_said (layout_of a d rows kind edition)) (λ l. change_in l s new) (λ l.
-    bind-within (kind_said (kind_of new)) (change_said l s) (change-within l s))
+    bind-within (known (layout_of a d rows kind edition)) (λ l. change_in l s new) (λ l.
+    bind-within (known (kind_of new)) (change_said l s) (change-within l s))
 
 rewrite-within : (s : List ℕ) (k : Kind) → Within (rewrite_said s k)
 rewrite-within s k room new e = ((rewritten-exactly s k room new).0 e).5
@@ -133,8 +133,8 @@ rewrite-within s k room new e = ((rewritten-exactly s k room new).0 e).5
 write-config-within : (s : List ℕ) (kind : ℕ) → Within (write_config_call s kind)
 unfolding write_config_call
 write-config-within s kind =
-    bind-within (answer_said (read_config s)) (λ c room. kind_said (kind_of kind) >>= λ k. rewrite_said s k room) (λ c.
-    bind-within (kind_said (kind_of kind)) (rewrite_said s) (rewrite-within s))
+    bind-within (answer_said (read_config s)) (λ c room. known (kind_of kind) >>= λ k. rewrite_said s k room) (λ c.
+    bind-within (known (kind_of kind)) (rewrite_said s) (rewrite-within s))
 
 -- DEMAND 1. On "no" no byte of a lent buffer is changed; on "yes" the bytes or places that were said stand at its front, and the rest is as it was
 pub refused-unchanged :
@@ -298,13 +298,9 @@ asked-only l n zs =
     only_then Placed (must (leb (places_of l) (length zs)) (refused 10 0 0)) _ (only-must Placed (leb (places_of l) (length zs)) (refused 10 0 0) (λ f. sizes-or-kind)) (λ f.
     unfit-only l n (2 + unfit l zs) (eqb (unfit l zs) (places_of l)) (says (row_of_places l zs)) (omega arith) tt))
 
-kind-only : (k : Option Kind) → RefusesOnly Placed (kind_said k)
-kind-only (Some k) = tt
-kind-only None = sizes-or-kind
-
-layout-only : (l : Option Layout) → RefusesOnly Placed (layout_said l)
-layout-only (Some l) = tt
-layout-only None = sizes-or-kind
+known-only : {A : Type 0} (o : Option A) → RefusesOnly Placed (known o)
+known-only (Some a) = tt
+known-only None = sizes-or-kind
 
 placed-only : {A : Type 0} (count : ℕ) (zs : List A) (room : ℕ) → RefusesOnly Placed (placed count zs room)
 placed-only count zs room =
@@ -348,12 +344,12 @@ unfolding config_call
 config-call-only s room = only-bind Placed (answer_said (read_config s)) (λ c. placed 35 (config_places c) room) (config-only s) (λ c e. placed-only 35 (config_places c) room)
 
 -- of a kind by its number
-by_number : {A : Type 0} (kind : ℕ) (f : Kind → Said Refusal A) → ((k : Kind) → RefusesOnly Placed (f k)) → RefusesOnly Placed (kind_said (kind_of kind) >>= f)
-by_number kind f p = only-bind Placed (kind_said (kind_of kind)) f (kind-only (kind_of kind)) (λ k e. p k)
+by_number : {A : Type 0} (kind : ℕ) (f : Kind → Said Refusal A) → ((k : Kind) → RefusesOnly Placed (f k)) → RefusesOnly Placed (known (kind_of kind) >>= f)
+by_number kind f p = only-bind Placed (known (kind_of kind)) f (known-only (kind_of kind)) (λ k e. p k)
 
 -- of a layout by its numbers
-by_layout : {A : Type 0} (l : Option Layout) (f : Layout → Said Refusal A) → ((l : Layout) → RefusesOnly Placed (f l)) → RefusesOnly Placed (layout_said l >>= f)
-by_layout l f p = only-bind Placed (layout_said l) f (layout-only l) (λ k e. p k)
+by_layout : {A : Type 0} (l : Option Layout) (f : Layout → Said Refusal A) → ((l : Layout) → RefusesOnly Placed (f l)) → RefusesOnly Placed (known l >>= f)
+by_layout l f p = only-bind Placed (known l) f (known-only l) (λ k e. p k)
 
 check-call-only : (a d rows kind edition : ℕ) (s : List ℕ) → RefusesOnly Placed (check_call a d rows kind edition s)
 unfolding check_call
@@ -404,7 +400,7 @@ rewrite-only s k room =
 write-config-only : (s : List ℕ) (kind room : ℕ) → RefusesOnly Placed (write_config_call s kind room)
 unfolding write_config_call
 write-config-only s kind room =
-    only-bind Placed (answer_said (read_config s)) (λ c. kind_said (kind_of kind) >>= λ k. rewrite_said s k room) (config-only s) (λ c e.
+    only-bind Placed (answer_said (read_config s)) (λ c. known (kind_of kind) >>= λ k. rewrite_said s k room) (config-only s) (λ c e.
     by_number kind (λ k. rewrite_said s k room) (λ k. rewrite-only s k room))
 
 -- DEMAND 1. Each call that refuses gives the number at its place

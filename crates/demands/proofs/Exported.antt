@@ -33,7 +33,7 @@ use Rattle.data.specs.Files.{row_at, check_file, show_row}
 use Rattle.row_places.specs.Rows.{places_of, row_places}
 use Rattle.row_places.proofs.RowLaws.{shown-none, sample-at, other_at}
 use Rattle.config_places.specs.Configs.{config_places}
-use Rattle.answers.specs.Answers.{layout_of, layout_said, placed}
+use Rattle.answers.specs.Answers.{layout_of, known, placed}
 use Rattle.calls_config.specs.Calls.{config_call}
 use Rattle.calls_data.specs.Calls.{check_call, row_call}
 use Rattle.calls_data.specs.Inner.{row_in}
@@ -46,9 +46,9 @@ use Rattle.exact_data.proofs.FileLaws.{data-exactly, row-shown, accepted-rows}
 use Rattle.exact_data.proofs.ChangeLaws.{own_range}
 use Rattle.demands.proofs.Missing.{sample-shown}
 
-layout-said : (n : Option Layout) (l : Layout) → layout_said n ≡ says l → n ≡ Some l
-layout-said (Some m) l e = cc
-layout-said None l e = clash (cc)
+layout-known : (n : Option Layout) (l : Layout) → known n ≡ says l → n ≡ Some l
+layout-known (Some m) l e = cc
+layout-known None l e = clash (cc)
 
 -- places that are shown
 room-said : (count : ℕ) (zs ys : List ℤ) (room : ℕ) → placed count zs room ≡ says ys → (count ≤ room) × (ys ≡ zs)
@@ -78,11 +78,11 @@ module _ (a d rows kind edition : ℕ) (s : List ℕ) (bytes : every is_byte s �
   file-to : check_call a d rows kind edition s ≡ says 0 → (l : Layout) × (r : ℕ → Row) × FileHere l r
   unfolding check_call
   file-to e =
-      let b = bind-told (layout_said (layout_of a d rows kind edition)) (λ l. answer_said (check_file l s) >> says 0) 0 e in
+      let b = bind-told (known (layout_of a d rows kind edition)) (λ l. answer_said (check_file l s) >> says 0) 0 e in
       let l = b.0 in
       let c = (yes-said (check_file l s) 0 0 b.2).0 in
       let t = accepted-rows l s bytes c in
-      (l, row_at l s, (layout-said (layout_of a d rows kind edition) l b.1, t.0, t.1))
+      (l, row_at l s, (layout-known (layout_of a d rows kind edition) l b.1, t.0, t.1))
 
   file-from : (l : Layout) × (r : ℕ → Row) × FileHere l r → check_call a d rows kind edition s ≡ says 0
   unfolding check_call
@@ -99,12 +99,12 @@ module _ (a d rows kind edition : ℕ) (s : List ℕ) (bytes : every is_byte s �
   place-to : (n room : ℕ) (zs : List ℤ) → row_call a d rows kind edition s n room ≡ says zs → RowHere n room zs
   unfolding row_call row_in
   place-to n room zs e =
-      let b = bind-told (layout_said (layout_of a d rows kind edition)) (λ l. row_in l s n room) zs e in
+      let b = bind-told (known (layout_of a d rows kind edition)) (λ l. row_in l s n room) zs e in
       let l = b.0 in
       let c = bind-told (answer_said (show_row l s n)) (λ r. placed (places_of l) (row_places l r) room) zs b.2 in
       let w = room-said (places_of l) (row_places l c.0) zs room c.2 in
       let (r, z, t, h, k, q) = (row-shown l s bytes n c.0).0 (said-answered (show_row l s n) c.0 c.1) in
-      (l, r, (layout-said (layout_of a d rows kind edition) l b.1, z, t), h, k, w.0, w.1 ∙ ap (row_places l) q)
+      (l, r, (layout-known (layout_of a d rows kind edition) l b.1, z, t), h, k, w.0, w.1 ∙ ap (row_places l) q)
 
   place-from : (n room : ℕ) (zs : List ℤ) → RowHere n room zs → row_call a d rows kind edition s n room ≡ says zs
   unfolding row_call row_in

@@ -44,13 +44,13 @@
  * edition, as tools/stack measures it; on aarch64 as the older kit rattle-kit-5b compiled it:
  *
  *                     x86-64      aarch64
- *     zl_config          1120        1296
- *     zl_write_config    1408        1488
- *     zl_check            288         320
- *     zl_row             4224        2896
- *     zl_write_row       2368        2560
- *     zl_length          1984        1984
- *     zl_change          4208        3504
+ *     zl_config          1056        1296
+ *     zl_write_config    1344        1488
+ *     zl_check            320         320
+ *     zl_row             4208        2896
+ *     zl_write_row       2384        2560
+ *     zl_length          2064        1984
+ *     zl_change          4256        3504
  *     zl_reason            16         736
  */
 #ifndef ZAGALUME_H

@@ -1,17 +1,20 @@
 -- Laws of files of text.
 --     takes_told, not-told            what an answer of a row's check says of the rule that gave it
+--     ending-none, ending-one, ending-three, ending-not     what may follow the last row, by its length
 --     row-takes-told                  a row that is fine: its line, and that it lies within the text
 --     row-takes                       a row that one walk read through is fine
 --     rows-turn                       a turn of the check over the rows
---     line-taken-within               the line that a text begins with lies within it
+--     line-within, line-taken-within  the line that a text begins with lies within it
 --     rows_none, rows-after           what follows the first i rows, from one to the next
 -- Assumes nothing.
 use mathlib.Core.Path.{◌≡◌, refl, sym, ap, ◌∙◌}
-use mathlib.Core.List.{List}
+use mathlib.Core.Bool.{true, false, ◌&&◌}
+use mathlib.Core.List.{List, [], ◌∷◌}
 use Prim.Native.Nat.{ℕ, zero, suc, ◌+◌, ◌-◌, ◌<◌, ◌≤◌}
 use native.Mathlib.Nat.{suc-add}
 use native.Mathlib.Omega.{arith}
-use lib.ListN.{length, take, drop}
+use lib.Dec.{eqb}
+use lib.ListN.{length, get_or, take, drop}
 use Rattle.ground.specs.Said.{Said, says, refuses, ◌>>=◌, ◌>>◌, answer_of}
 use Rattle.ground.proofs.SaidLaws.{then-told}
 use Rattle.std.proofs.Common.{Err, Ok, Result}
@@ -23,7 +26,7 @@ use Rattle.model.specs.declared.Layout.{Layout}
 use Rattle.model.specs.declared.Refusal.{Refusal}
 use Rattle.ascii_row.specs.Rows.{check_line}
 use Rattle.ascii_walk.specs.Inner.{RowThere}
-use Rattle.ascii_file.specs.Files.{scan_row, found, take_row, check_lines, line_length, line_taken, after_rows}
+use Rattle.ascii_file.specs.Files.{scan_row, found, take_row, is_ending, check_lines, line_length, line_taken, after_rows}
 
 pub takes_told : (x : Said Refusal ℕ) (k : ℕ) → answer_of x ≡ Ok k → x ≡ says k
 takes_told (says j) k e = cc
@@ -32,6 +35,33 @@ takes_told (refuses r) k e = cc
 pub not-told : (x : Said Refusal ℕ) (r : Refusal) → answer_of x ≡ Err r → x ≡ refuses r
 not-told (says j) r e = cc
 not-told (refuses q) r e = cc
+
+pub ending-none : (s : List ℕ) → length s ≡ 0 → is_ending s ≡ true
+unfolding is_ending
+ending-none [] h = refl
+ending-none (b ∷ s) h = absurd (omega arith)
+
+pub ending-one : (s : List ℕ) → length s ≡ 1 → is_ending s ≡ eqb (get_or s 0 0) 26
+unfolding is_ending
+ending-one [] h = absurd (omega arith)
+ending-one (b ∷ []) h = refl
+ending-one (b ∷ c ∷ s) h = absurd (omega arith)
+
+pub ending-three : (s : List ℕ) → length s ≡ 3 → is_ending s ≡ (eqb (get_or s 0 0) 26 && eqb (get_or s 1 0) 13 && eqb (get_or s 2 0) 10)
+unfolding is_ending
+ending-three [] h = absurd (omega arith)
+ending-three (b ∷ []) h = absurd (omega arith)
+ending-three (b ∷ c ∷ []) h = absurd (omega arith)
+ending-three (b ∷ c ∷ d ∷ []) h = refl
+ending-three (b ∷ c ∷ d ∷ e ∷ s) h = absurd (omega arith)
+
+pub ending-not : (s : List ℕ) → (length s ≡ 0 → ⊥) → (length s ≡ 1 → ⊥) → (length s ≡ 3 → ⊥) → is_ending s ≡ false
+unfolding is_ending
+ending-not [] f g h = absurd (f refl)
+ending-not (b ∷ []) f g h = absurd (g refl)
+ending-not (b ∷ c ∷ []) f g h = refl
+ending-not (b ∷ c ∷ d ∷ []) f g h = absurd (h refl)
+ending-not (b ∷ c ∷ d ∷ e ∷ s) f g h = refl
 
 -- a row that is fine is a line of len bytes, fine, and takes len + 2
 pub record RowTakes (l : Layout) (n : ℕ) (s : List ℕ) (k : ℕ) : Type 0 where
@@ -68,6 +98,9 @@ within-from : (s : List ℕ) (r : Result Line LineError) → Found 1880 s r → 
 within-from s (Ok one) f = (omega (arith, f.1.within, f.0), f.1.within)
 within-from s (Err Ends) f = (omega arith, omega arith)
 within-from s (Err Bad) f = (omega arith, omega arith)
+
+pub line-within : (s : List ℕ) → line_length (scan_row s) ≤ length s
+line-within s = (within-from s (scan_row s) (scan-found 1880 s)).0
 
 pub line-taken-within : (s : List ℕ) → line_taken (scan_row s) ≤ length s
 line-taken-within s = (within-from s (scan_row s) (scan-found 1880 s)).1

@@ -8,7 +8,7 @@
 --     told-fits, sample-fits      what is read as a sample can be written
 --     time-read, sample-read      what a field that is fine is read as
 --     time-fine, sample-fine      what is read as a count or a whole number in its range is fine, and so is the field of a missing sample
---     status-told                 what is a status, by its length
+--     status-told, status-not     what is a status and what is not, by its length
 -- Assumes nothing.
 use mathlib.Core.Path.{◌≡◌, refl, ◌∙◌}
 use mathlib.Core.Bool.{true, false, not, ◌&&◌, ◌||◌}
@@ -175,3 +175,9 @@ unfolding is_status
 status-told [] h = absurd (omega arith)
 status-told (b ∷ []) h = refl
 status-told (b ∷ c ∷ f) h = absurd (omega arith)
+
+pub status-not : (f : List ℕ) → (length f ≡ 1 → ⊥) → is_status f ≡ false
+unfolding is_status
+status-not [] h = refl
+status-not (b ∷ []) h = absurd (h refl)
+status-not (b ∷ c ∷ f) h = refl

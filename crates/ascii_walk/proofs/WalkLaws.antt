@@ -1,6 +1,8 @@
 -- Laws of a walk over a text row.
 --     Clean                                     no comma, and only bytes that a line may have
 --     count-clean, whole-clean, fine-clean      what reads as a number, and a field that is fine, is so
+--     status-fine                               a status that is read where it stands is fine there
+--     status-byte                               the byte of a status, as an order
 --     empty-there                               an empty field is a sample, where the text is not marked
 --     number-there                              so is a field that is read as a number, by what it says
 --     next-time, next-sample, next-status       so it is the next field
@@ -10,20 +12,20 @@
 -- Assumes nothing.
 use mathlib.Core.Path.{◌≡◌, refl, sym, ◌∙◌}
 use mathlib.Core.Bool.{Bool, true, false}
-use mathlib.Core.Logic.{inl, inr}
+use mathlib.Core.Logic.{inl, inr, ⊎_elim}
 use mathlib.Core.List.{List, [], ◌∷◌, ◌++◌}
 use Prim.Native.Nat.{ℕ, zero, suc, ◌+◌, ◌-◌, ◌*◌, ◌≤◌, ◌<◌}
 use native.Mathlib.Nat.{add-zero, zero-add, sub-zero}
 use native.Mathlib.Numerals.{add-one}
 use native.Mathlib.Omega.{arith}
-use borrow.Author.Tests.{eq-eqb, eqb-true, ne_eqb, le-leb}
+use borrow.Author.Tests.{eq-eqb, eqb-true, ne_eqb, le-leb, leb-true, leb-false}
 use lib.Dec.{eqb, leb}
 use lib.IntN.{ℤ, pos}
 use lib.ListN.{length, get_or, take, drop, take-append-drop}
 use lib.Seq.{take-append_seam, drop-append-add, length-take-le}
 use Rattle.ground.specs.Said.{says}
 use Rattle.ground.specs.Tables.{part}
-use Rattle.ground.proofs.Cases.{on_test}
+use Rattle.ground.proofs.Cases.{on_test, lt-or-ge}
 use Rattle.ground.proofs.Every.{every_append}
 use Rattle.ground.proofs.Filled.{parts_join}
 use Rattle.ground.proofs.Parts.{part_none, part-here}
@@ -128,6 +130,22 @@ unfolding field_fine
 fine-clean l k f e =
     on_test (eqb k 2) (λ t. count-clean 1 13 f _ (time-read f (rw t at e))) (λ t.
     on_test (leb k (2 + l.analogs)) (λ u. sample-clean l f _ (sample-read l f (rw (t, u) at e))) (λ u. status-clean f (rw (t, u) at e)))
+
+pub status-fine : (s : List ℕ) (i : ℕ) → i + 2 < length s → is_status (part (i + 1) (i + 2) s) ≡ is_status (get_or s (i + 1) 0 ∷ [])
+status-fine s i w =
+    let q : i + 1 + 1 ≡ i + 2 = omega arith in
+    rw (part-here 0 (i + 1) (i + 2) s (omega arith) (omega arith), q, part_none (i + 2) s)
+
+pub status-byte : (b : ℕ) → 48 ≤ b → leb b 49 ≡ is_status (b ∷ [])
+unfolding is_status
+status-byte b h =
+    ⊎_elim
+    (λ (l : b < 49). rw (eq-eqb b 48 (omega arith), le-leb b 49 (omega arith)))
+    (λ (l : 49 ≤ b).
+    on_test (leb b 49)
+    (λ t. let k = leb-true b 49 t in rw (t, ne_eqb b 48 (λ e. omega arith), eq-eqb b 49 (omega arith)))
+    (λ t. let k = leb-false b 49 t in rw (t, ne_eqb b 48 (λ e. omega arith), ne_eqb b 49 (λ e. omega arith))))
+    (lt-or-ge b 49)
 
 -- an empty sample, which takes its comma alone
 pub empty-there : (l : Layout) (s : List ℕ) (i j : ℕ) → marked l ≡ false → get_or s i 0 ≡ 44 → j ≡ i + 1 → j < length s → SampleThere l s i j

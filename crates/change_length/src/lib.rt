@@ -149,7 +149,8 @@ fn settle_binary(layout: Layout, data: &[u8], kind: Kind) -> Result<usize, Refus
     Ok(layout.rows as usize * size)
 }
 
-// How many bytes the new file takes, or why there is none, from one binary kind to another: no row is built.
+// How many bytes the new file takes, or why there is none, from one binary kind to another: no row is built. It stays a function of its own, so that the loop over the rows has all registers.
+#[inline(never)]
 fn decide_binary(layout: Layout, data: &[u8], kind: Kind) -> Result<usize, Refusal>
     requires { (Sized layout) × (both_binary layout.kind kind ≡ true) }
     ensures { (result ≡ answer_of (decided layout «data».now kind)) × (FewBytes result) }

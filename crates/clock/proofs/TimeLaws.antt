@@ -1,13 +1,15 @@
 -- Laws of times of day.
 --     time-bounds            what a valid time of day is, as orders
 --     form-length            what has the form of a time is 15 to 18 characters long
+--     fraction-turn          one place more of a fraction that is scaled to 9 digits
 --     second-at-most         the second of a day is below 86,400
 --     read-time-valid        a time of day that is read is valid
 -- Assumes nothing.
 use mathlib.Core.Path.{◌≡◌}
 use mathlib.Core.Bool.{true, ◌&&◌}
 use mathlib.Core.List.{List}
-use Prim.Native.Nat.{ℕ, ◌≤◌, ◌<◌}
+use Prim.Native.Nat.{ℕ, suc, ◌+◌, ◌-◌, ◌*◌, ◌^◌, ◌≤◌, ◌<◌}
+use native.Mathlib.Nat.{pow-succ', mul_assoc, mul_comm}
 use native.Mathlib.Omega.{arith}
 use borrow.Author.Tests.{ltb-true}
 use lib.Dec.{ltb}
@@ -37,6 +39,11 @@ time-bounds x e =
 pub form-length : (l : List ℕ) → time_form l ≡ true → (15 ≤ length l) × (length l ≤ 18)
 unfolding time_form
 form-length l e = length-bounds 15 18 l (and_split (length_in 15 18 l) (fits_pattern (take (length l) time_pattern) l) e).0
+
+pub fraction-turn : (n k : ℕ) → k < 18 → 10 * n * 10 ^ (18 - (k + 1)) ≡ n * 10 ^ (18 - k)
+fraction-turn n k h =
+    let e : 18 - k ≡ suc (18 - (k + 1)) = omega arith in
+    rw (e, pow-succ', mul_comm 10 n, mul_assoc)
 
 pub second-at-most : (x : Time) → valid_time x ≡ true → second_of_day x < 86400
 unfolding second_of_day

@@ -270,6 +270,6 @@ refused-said (refuses t) r e = cc
 pub first-fault : (s : List ℕ) (n k f : ℕ) → read_config s ≡ Err (refused n k f) → 2 ≤ n → n < 9 → FailsAt k s
 unfolding read_config
 first-fault s n k f e least most =
-    let (j, q, t, u, w, y, l, none) = config-stops.fails 1 s (refused n k f) (refused-said (configuration (1, s)) (refused n k f) e) (rw (number-back n (omega arith) (omega arith)) (least, most)) in
+    let (j, q, t, u, w, y, l, none) = config-stops.fails 1 s (refused n k f) (refused-said (configuration (1, s)) (refused n k f) e) (rw (number-back n) (least, most)) in
     let m : j ≡ k - 1 = omega arith in
     record { before = t; rest = u; whole = w; due = y; right = subst (λ (i : ℕ). RightLines i station t y) m l; wrong = none }

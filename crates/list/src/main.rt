@@ -147,7 +147,8 @@ fn is_given(found: &Result<usize, FillError>) -> bool
     !matches!(found, Err(FillError::NotPresent))
 }
 
-// Prints the listing.
+// Prints the listing. It stays a function of its own, so that only a run that lists has its room on the stack.
+#[inline(never)]
 fn print<O: Write>(out: &mut O, cfg: &[u8], dat: &[u8]) -> io::Result<()>
     ensures { OnOk result (Appends (O.contents out.old) (O.contents out.new) (listing cfg.now dat.now)) }
 {

@@ -1,14 +1,14 @@
 -- Laws of the numbers of refusals.
---     number-back     the reason of a number from 1 to 17 has that number
+--     number-back     the reason of a number has that number
 -- Assumes nothing.
-use Rattle.std.proofs.Common.{◌≡◌, ◌≤◌, ℕ, sym, arith}
-use borrow.Author.Tests.{eqb-true, eqb-false}
+use Rattle.std.proofs.Common.{◌≡◌, ℕ, sym, refl}
+use borrow.Author.Tests.{eqb-true}
 use lib.Dec.{eqb}
 use Rattle.ground.proofs.Cases.{on_test}
 use Rattle.model.specs.Refusals.{reason_number, numbered}
 
-pub number-back : (n : ℕ) → 1 ≤ n → n ≤ 17 → reason_number (numbered n) ≡ n
-number-back n h k =
+pub number-back : (n : ℕ) → reason_number (numbered n) ≡ n
+number-back n =
     on_test (eqb n 1) (λ t1. rw t1 (sym (eqb-true n 1 t1))) (λ t1.
     on_test (eqb n 2) (λ t2. rw (t1, t2) (sym (eqb-true n 2 t2))) (λ t2.
     on_test (eqb n 3) (λ t3. rw (t1, t2, t3) (sym (eqb-true n 3 t3))) (λ t3.
@@ -25,4 +25,5 @@ number-back n h k =
     on_test (eqb n 14) (λ t14. rw (t1, t2, t3, t4, t5, t6, t7, t8, t9, t10, t11, t12, t13, t14) (sym (eqb-true n 14 t14))) (λ t14.
     on_test (eqb n 15) (λ t15. rw (t1, t2, t3, t4, t5, t6, t7, t8, t9, t10, t11, t12, t13, t14, t15) (sym (eqb-true n 15 t15))) (λ t15.
     on_test (eqb n 16) (λ t16. rw (t1, t2, t3, t4, t5, t6, t7, t8, t9, t10, t11, t12, t13, t14, t15, t16) (sym (eqb-true n 16 t16))) (λ t16.
-    rw (t1, t2, t3, t4, t5, t6, t7, t8, t9, t10, t11, t12, t13, t14, t15, t16) (omega (arith, eqb-false n 1 t1, eqb-false n 2 t2, eqb-false n 3 t3, eqb-false n 4 t4, eqb-false n 5 t5, eqb-false n 6 t6, eqb-false n 7 t7, eqb-false n 8 t8, eqb-false n 9 t9, eqb-false n 10 t10, eqb-false n 11 t11, eqb-false n 12 t12, eqb-false n 13 t13, eqb-false n 14 t14, eqb-false n 15 t15, eqb-false n 16 t16))))))))))))))))))
+    on_test (eqb n 17) (λ t17. rw (t1, t2, t3, t4, t5, t6, t7, t8, t9, t10, t11, t12, t13, t14, t15, t16, t17) (sym (eqb-true n 17 t17))) (λ t17.
+    rw (t1, t2, t3, t4, t5, t6, t7, t8, t9, t10, t11, t12, t13, t14, t15, t16, t17) refl)))))))))))))))))

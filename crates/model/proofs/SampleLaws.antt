@@ -7,11 +7,12 @@
 --     place-number, place-back                  a place is written as a number, and is what that number says
 --     sample-back, sample-bytes-back            a sample is read as it was written, and its bytes are written as they were read
 --     holds-size, size_holds                    a sample of a layout is smaller than half of the numbers of its width, and the other way round
---     short-holds                               a number in the range of the kind binary is a sample of every layout
+--     short-told, short-holds                   a number in the range of the kind binary, by two tests; it is a sample of every layout
 --     holds-there                               a sample of a layout is not missing
 --     missing-fits, fits-there, there-fits      a missing sample can be written in every layout, any other where it is a sample of it
 --     fits_word, word_fits                      what can be written has a number, and the other way round
 --     fits-small                                what can be written is a number of 32 bits
+--     mark-below, mark-above, mark-is           the number that marks a missing sample: no other, below or above
 --     mark-word                                 the number that marks a missing sample, by its 64 bits
 --     mark-out                                  the number that marks a missing sample is no sample of a marked text
 -- Assumes nothing.
@@ -22,7 +23,7 @@ use mathlib.Core.Logic.{⊎_elim}
 use Prim.Native.Nat.{ℕ, suc, ◌+◌, ◌-◌, ◌^◌, ◌<◌, ◌≤◌}
 use native.Mathlib.Nat.{one-le-pow}
 use native.Mathlib.Omega.{arith}
-use borrow.Author.Tests.{eq-eqb, ne_eqb, eqb-true, eqb-false, ltb-false, le-ltb, not-true}
+use borrow.Author.Tests.{eq-eqb, ne_eqb, eqb-true, eqb-false, ltb-true, ltb-false, le-ltb, not-true}
 use lib.Dec.{lit<, eqb, ltb}
 use lib.IntN.{ℤ, pos, negsuc, nat_abs}
 use lib.ListN.{length}
@@ -163,6 +164,21 @@ size-kind Ascii e z binary h = absurd (binary refl)
 size-kind Binary e z binary h = inside 32766 z (omega arith)
 size-kind Binary32 e z binary h = inside 2147483646 z (omega arith)
 
+pub mark-below : (z : ℤ) → lt_z z (pos 99999) ≡ true → is_mark z ≡ false
+unfolding is_mark
+mark-below (pos n) e = ne_eqb n 99999 (λ q. omega (arith, ltb-true n 99999 e))
+mark-below (negsuc n) e = refl
+
+pub mark-above : (z : ℤ) → lt_z (pos 99999) z ≡ true → is_mark z ≡ false
+unfolding is_mark
+mark-above (pos n) e = ne_eqb n 99999 (λ q. omega (arith, ltb-true 99999 n e))
+mark-above (negsuc n) e = refl
+
+pub mark-is : (z : ℤ) → lt_z z (pos 99999) ≡ false → lt_z (pos 99999) z ≡ false → is_mark z ≡ true
+unfolding is_mark
+mark-is (pos n) low high = eq-eqb n 99999 (omega (arith, ltb-false n 99999 low, ltb-false 99999 n high))
+mark-is (negsuc n) low high = cc
+
 pub mark-word : (z : ℤ) → SFits w64 z → eqb (of_z w64 z) 99999 ≡ is_mark z
 unfolding is_mark
 mark-word (pos n) f = refl
@@ -175,6 +191,9 @@ mark-outside Ascii Y1999 (pos n) m t = rw (eqb-true n 99999 t)
 mark-outside Ascii Y1999 (negsuc n) m t = cc
 mark-outside Binary e z m t = cc
 mark-outside Binary32 e z m t = cc
+
+pub short-told : (z : ℤ) → lt_z z (negsuc 32766) ≡ false → lt_z (pos 32767) z ≡ false → nat_abs z < 32768
+short-told z low high = let e : not (lt_z z (negsuc 32766)) && not (lt_z (pos 32767) z) ≡ true = rw (low, high) in omega (arith, within 32766 z e)
 
 short-kind : (k : Kind) (e : Edition) (z : ℤ) → nat_abs z < 32768 → not (lt_z z (lowest_of k e)) && not (lt_z (highest_of k e) z) ≡ true
 short-kind Ascii Y2013 z h = inside 2147483646 z (omega arith)

@@ -6,6 +6,10 @@
 --     rows-turn                       a turn of the check over the rows
 --     line-within, line-taken-within  the line that a text begins with lies within it
 --     rows_none, rows-after           what follows the first i rows, from one to the next
+--     found-only                      a line that isn't found is refused only with 11 or 14
+--     row-only, row-tabled            a row only so, or as the check of its line refuses, and so with reasons in the table of numbers
+--     end-only, end-tabled            what follows the last row only with 11
+--     lines-only, file-only, file-tabled     rows and their end, and a file, only so
 -- Assumes nothing.
 use mathlib.Core.Path.{◌≡◌, refl, sym, ap, ◌∙◌}
 use mathlib.Core.Bool.{true, false, ◌&&◌}
@@ -13,9 +17,10 @@ use mathlib.Core.List.{List, [], ◌∷◌}
 use Prim.Native.Nat.{ℕ, zero, suc, ◌+◌, ◌-◌, ◌<◌, ◌≤◌}
 use native.Mathlib.Nat.{suc-add}
 use native.Mathlib.Omega.{arith}
-use lib.Dec.{eqb}
+use lib.Dec.{lit≤, eqb}
 use lib.ListN.{length, get_or, take, drop}
 use Rattle.ground.specs.Said.{Said, says, refuses, ◌>>=◌, ◌>>◌, answer_of}
+use Rattle.ground.proofs.RefusalLaws.{RefusesOnly, only-must, only_then, only-bind}
 use Rattle.ground.proofs.SaidLaws.{then-told}
 use Rattle.std.proofs.Common.{Err, Ok, Result}
 use Rattle.text.specs.declared.LineError.{LineError}
@@ -24,9 +29,12 @@ use Rattle.text.specs.declared.LineError.TheVariants.{Bad, Ends}
 use Rattle.text.proofs.LineLaws.{Found, scan-found, line-found}
 use Rattle.model.specs.declared.Layout.{Layout}
 use Rattle.model.specs.declared.Refusal.{Refusal}
+use Rattle.model.specs.Refusals.{refused}
+use Rattle.model.proofs.NumberLaws.{RefusalTabled, RefusesTabled}
 use Rattle.ascii_row.specs.Rows.{check_line}
+use Rattle.ascii_row.proofs.RowLaws.{line-only}
 use Rattle.ascii_walk.specs.Inner.{RowThere}
-use Rattle.ascii_file.specs.Files.{scan_row, found, take_row, is_ending, check_lines, line_length, line_taken, after_rows}
+use Rattle.ascii_file.specs.Files.{scan_row, found, take_row, is_ending, check_end, check_lines, check_text, line_length, line_taken, after_rows}
 
 pub takes_told : (x : Said Refusal ℕ) (k : ℕ) → answer_of x ≡ Ok k → x ≡ says k
 takes_told (says j) k e = cc
@@ -113,3 +121,43 @@ pub rows-after : (i : ℕ) (s : List ℕ) → after_rows (i + 1) s ≡ drop (lin
 unfolding after_rows
 rows-after zero s = refl
 rows-after (suc i) s = rw (suc-add i 1) (rows-after i (drop (line_taken (scan_row s)) s))
+
+module _ (P : Refusal → Type 0) where
+  -- row n
+  module _ (n : ℕ) (ends : P (refused 11 n 0)) where
+    pub end-only : (s : List ℕ) → RefusesOnly P (check_end n s)
+    end-only s = only-must P (is_ending s) (refused 11 n 0) (λ e. ends)
+
+    module _ (bad : (k : ℕ) → P (refused 14 n k)) (number : P (refused 12 n 1)) where
+      pub found-only : (x : Result Line LineError) → RefusesOnly P (found n x)
+      found-only (Ok one) = tt
+      found-only (Err Ends) = ends
+      found-only (Err Bad) = bad 0
+
+      pub row-only : (l : Layout) (s : List ℕ) → RefusesOnly P (take_row l n s)
+      unfolding take_row
+      row-only l s =
+          only-bind P (found n (scan_row s)) (λ len. check_line l n (take len s) >> says (len + 2)) (found-only (scan_row s))
+          (λ len e. only_then P (check_line l n (take len s)) (says (len + 2)) (line-only P n bad number l (take len s)) (λ f. tt))
+
+  -- every row
+  module _ (ends : (n : ℕ) → 1 ≤ n → P (refused 11 n 0)) (bad : (n k : ℕ) → 1 ≤ n → P (refused 14 n k)) (number : (n : ℕ) → 1 ≤ n → P (refused 12 n 1)) where
+    pub lines-only : (l : Layout) (s : List ℕ) (n m : ℕ) → 1 ≤ n → RefusesOnly P (check_lines l s n m)
+    unfolding check_lines
+    lines-only l s n zero h = end-only n (ends n h) s
+    lines-only l s n (suc m) h =
+        only-bind P (take_row l n s) (λ taken. check_lines l (drop taken s) (n + 1) m) (row-only n (ends n h) (λ k. bad n k h) (number n h) l s)
+        (λ taken e. lines-only l (drop taken s) (n + 1) m (omega arith))
+
+    pub file-only : (l : Layout) (s : List ℕ) → RefusesOnly P (check_text l s)
+    unfolding check_text
+    file-only l s = lines-only l s 1 l.rows (lit≤ tt)
+
+pub end-tabled : (n : ℕ) (s : List ℕ) → RefusesTabled (check_end n s)
+end-tabled n s = end-only RefusalTabled n tt s
+
+pub row-tabled : (l : Layout) (n : ℕ) (s : List ℕ) → RefusesTabled (take_row l n s)
+row-tabled l n s = row-only RefusalTabled n tt (λ k. tt) tt l s
+
+pub file-tabled : (l : Layout) (s : List ℕ) → RefusesTabled (check_text l s)
+file-tabled l s = file-only RefusalTabled (λ n h. tt) (λ n k h. tt) (λ n h. tt) l s

@@ -1,5 +1,6 @@
 -- Laws of the row that bytes are.
 --     check-told       what a check that finds nothing says
+--     check-only, check-tabled     a check refuses only with 12 at field 1 or with 13, so with reasons in the table of numbers
 --     row_has          every place that was read has a number
 --     row_fits         and so fits, in a kind that is not text
 --     row-trimmed      what was read has its places past A and D zero
@@ -16,14 +17,17 @@ use lib.ListN.{get_or}
 use Rattle.ground.specs.Said.{says, must}
 use Rattle.ground.specs.Tables.{part, every}
 use Rattle.ground.proofs.SaidLaws.{must-told, must-holds}
+use Rattle.ground.proofs.RefusalLaws.{RefusesOnly, only-must, only_then}
 use Rattle.words.specs.Words.{word_of, is_byte}
 use Rattle.words.proofs.WordLaws.{word_of-part-lt}
 use Rattle.model.specs.declared.Kind.TheVariants.{Ascii}
 use Rattle.model.specs.declared.Layout.{Layout}
+use Rattle.model.specs.declared.Refusal.{Refusal}
 use Rattle.model.specs.Kinds.{width_of, half_of}
 use Rattle.model.specs.Refusals.{refused}
 use Rattle.model.specs.Rows.{trimmed, misfit}
 use Rattle.model.specs.Inner.{HasWord}
+use Rattle.model.proofs.NumberLaws.{RefusalTabled, RefusesTabled}
 use Rattle.model.proofs.KindLaws.{half_le, kind-half-twice}
 use Rattle.binary_row.specs.Rows.{samples_end, row_number, samples_part, words_part, bytes_sample, word_status, padding_free, check_row, row_of}
 use Rattle.ground.proofs.Filled.{get_or-padded, padded-again}
@@ -62,3 +66,15 @@ row-trimmed l b =
       padded-again (bytes_sample (width_of k) (half_of k) (samples_part l b)) l.analogs 96 (pos 0),
       padded-again (word_status (words_part l b)) l.statuses 256 false,
     )
+
+pub check-only : (P : Refusal → Type 0) (n : ℕ) → P (refused 12 n 1) → P (refused 13 n 0) → (l : Layout) (b : List ℕ) → RefusesOnly P (check_row l n b)
+unfolding check_row
+check-only P n number padding l b =
+    let same = eqb (row_number b) n in
+    let free = padding_free l.statuses (words_part l b) in
+    only_then P (must same (refused 12 n 1)) (must free (refused 13 n 0))
+    (only-must P same (refused 12 n 1) (λ e. number))
+    (λ e. only-must P free (refused 13 n 0) (λ f. padding))
+
+pub check-tabled : (l : Layout) (n : ℕ) (b : List ℕ) → RefusesTabled (check_row l n b)
+check-tabled l n b = check-only RefusalTabled n tt tt l b

@@ -1,5 +1,6 @@
 -- Laws of the rules of a configuration's lines.
 --     line-ready     after a line that is fine, the rule after it has what it needs
+--     line-ruled     a line refuses only with 4, or 5 to 8 at a field
 --     set_past       a store past the end stores nothing
 -- Assumes nothing.
 use Rattle.ground.specs.Said.{says}
@@ -13,6 +14,9 @@ use Rattle.ground.proofs.Cases.{on_test}
 use Rattle.channel_lines.specs.Channels.{channels_line, analog_line, status_line}
 use Rattle.config_lines.specs.Lines.{station_line, frequency_line, rates_line, rate_line, date_line, kind_line, multiplier_line, codes_line, quality_line}
 use Rattle.config_rules.specs.Inner.{Taken}
+use Rattle.line_fields.proofs.PlaceLaws.{Ruled, then-ruled, bind-ruled}
+use Rattle.channel_lines.proofs.PlaceLaws.{channels-ruled, analog-ruled, status-ruled}
+use Rattle.config_lines.proofs.PlaceLaws.{station-ruled, frequency-ruled, rates-ruled, rate-ruled, date-line-ruled, kind-line-ruled, multiplier-ruled, codes-ruled, quality-ruled}
 use Rattle.config_lines.proofs.Laws.{date-said}
 use Rattle.model.specs.declared.Edition.{Edition}
 use Rattle.model.specs.declared.Edition.TheVariants.{Y2013, Y1999}
@@ -62,6 +66,23 @@ line-ready Multiplier c l t e = let z = (then-told (multiplier_line l) _ t e).1 
 line-ready Codes c l t e = let w = bind-told (codes_line l) _ t e in let z = w.2 in let q : taken Quality (with_codes w.0.0 w.0.1 w.0.2 c) ≡ t = cc in rw (← q) tt
 line-ready Quality c l t e = let w = bind-told (quality_line l) _ t e in let z = w.2 in let q : taken Done (with_quality w.0.0 w.0.1 c) ≡ t = cc in rw (← q) tt
 line-ready Done c l t e = let q : taken Done c ≡ t = cc in rw (← q) tt
+
+pub line-ruled : (k : Rule) (c : Config) (l : List ℕ) → Ruled (take_line k c l)
+unfolding take_line
+line-ruled Station c l = bind-ruled (station_line l) _ (station-ruled l) (λ e. tt)
+line-ruled Counts c l = bind-ruled (channels_line l) _ (channels-ruled l) (λ a. tt)
+line-ruled (Analog i) c l = then-ruled (analog_line i l) _ (analog-ruled i l) tt
+line-ruled (Status i) c l = then-ruled (status_line i l) _ (status-ruled i l) tt
+line-ruled Frequency c l = then-ruled (frequency_line l) _ (frequency-ruled l) tt
+line-ruled RateCount c l = bind-ruled (rates_line l) _ (rates-ruled l) (λ r. tt)
+line-ruled (Rate i) c l = bind-ruled (rate_line (eqb c.rates 0) c.layout.rows l) _ (rate-ruled (eqb c.rates 0) c.layout.rows l) (λ v. tt)
+line-ruled First c l = bind-ruled (date_line l) _ (date-line-ruled l) (λ d. tt)
+line-ruled Trigger c l = bind-ruled (date_line l) _ (date-line-ruled l) (λ d. tt)
+line-ruled KindWord c l = bind-ruled (kind_line c.layout.edition l) _ (kind-line-ruled c.layout.edition l) (λ k. tt)
+line-ruled Multiplier c l = then-ruled (multiplier_line l) _ (multiplier-ruled l) tt
+line-ruled Codes c l = bind-ruled (codes_line l) _ (codes-ruled l) (λ t. tt)
+line-ruled Quality c l = bind-ruled (quality_line l) _ (quality-ruled l) (λ q. tt)
+line-ruled Done c l = tt
 
 -- a store past the end
 pub set_past : (l : List ℕ) (i v : ℕ) → length l ≤ i → set l i v ≡ l

@@ -1,52 +1,45 @@
 -- The table "Numbers for no": each number with the place that it is given at. Here it stands as a predicate, and every part of the calls is shown to refuse so.
 --     Placed                        the table
---     placed-number                 a refusal's number is 1 to 17
+--     placed-tabled, placed-number  a refusal's reason is one of the 17, and its number 1 to 17
 --     PlacedTo                      placed, with a number of at most so much
 --     config-placed                 reading a configuration
 --     file-placed, fits-placed      the check of a data file, and of the samples of its rows
 -- Assumes nothing.
 use mathlib.Core.Bool.{Bool, true, false}
 use mathlib.Core.List.{List}
-use Prim.Native.Nat.{ℕ, zero, suc, ◌+◌, ◌*◌, ◌≤◌, max}
+use Prim.Native.Nat.{ℕ, zero, suc, ◌+◌, ◌≤◌, max}
 use native.Mathlib.Omega.{arith}
 use lib.Dec.{lit≤, eqb, leb}
 use lib.ListN.{length, take, drop}
-use Rattle.ground.specs.Said.{Said, says, refuses, ◌>>=◌, ◌>>◌, must}
-use Rattle.ground.proofs.RefusalLaws.{RefusesOnly, only-must, only_then, only-bind}
-use Rattle.std.proofs.Common.{Err, None, Ok, Option, Result, Some}
+use Rattle.ground.specs.Said.{Said, says, refuses, ◌>>=◌, ◌>>◌}
+use Rattle.ground.proofs.RefusalLaws.{RefusesOnly, only-must, only_then}
+use Rattle.std.proofs.Common.{Err, Ok, Result}
 use Rattle.text.specs.declared.LineError.{LineError}
 use Rattle.text.specs.declared.Line.{Line}
 use Rattle.text.specs.declared.LineError.TheVariants.{Bad, Ends}
 use Rattle.text.specs.Lines.{scan_line, scan_last_line}
-use Rattle.text.specs.Fields.{field_count, field_length, first_field, after_fields, field_at}
-use Rattle.numerals.specs.Counts.{read_count}
 use Rattle.line_fields.specs.declared.Fault.{Fault}
 use Rattle.channel_lines.specs.Channels.{channels_line, analog_line, status_line}
 use Rattle.config_lines.specs.Lines.{station_line, frequency_line, rates_line, rate_line, date_line, kind_line, multiplier_line, codes_line, quality_line}
 use Rattle.line_fields.proofs.PlaceLaws.{FaultPlaced, whole, form, range, agreement, year, Ruled}
 use Rattle.channel_lines.proofs.PlaceLaws.{channels-ruled, analog-ruled, status-ruled}
 use Rattle.config_lines.proofs.PlaceLaws.{station-ruled, frequency-ruled, rates-ruled, rate-ruled, date-line-ruled, kind-line-ruled, multiplier-ruled, codes-ruled, quality-ruled}
-use Rattle.model.specs.declared.Kind.{Kind}
-use Rattle.model.specs.declared.Kind.TheVariants.{Ascii, Binary, Binary32}
 use Rattle.model.specs.declared.Edition.{Edition}
 use Rattle.model.specs.declared.Edition.TheVariants.{Y2013, Y1999}
 use Rattle.model.specs.declared.Layout.{Layout}
 use Rattle.model.specs.declared.Row.{Row}
 use Rattle.model.specs.declared.Refusal.{Refusal}
 use Rattle.model.specs.Refusals.{refused, reason_number}
+use Rattle.model.proofs.NumberLaws.{RefusalTabled, tabled-number}
 use Rattle.config_rules.specs.declared.Config.{Config}
 use Rattle.config.specs.Reading as reading
 use Rattle.config.specs.Reading.{Place, said_of, in_line, scanned, line, last_line, times, refused_in}
 use Rattle.config.specs.Config.{last_rows, size, last_lines, nothing_more, configuration}
-use Rattle.binary_row.specs.Rows as binary
-use Rattle.binary_row.specs.Rows.{row_size, row_number, words_part, padding_free}
-use Rattle.binary_file.specs.Files as binary_file
-use Rattle.binary_file.specs.Files.{row_bytes, check_length, check_binary}
-use Rattle.ascii_row.specs.Rows as ascii
-use Rattle.ascii_row.specs.Rows.{field_fine, fields_of, check_fields, check_number, check_line}
-use Rattle.ascii_file.specs.Files as ascii_file
-use Rattle.ascii_file.specs.Files.{scan_row, found, take_row, is_ending, check_text}
-use Rattle.row_bytes.specs.Rows.{by_kind}
+use Rattle.binary_file.specs.Files.{check_binary}
+use Rattle.binary_file.proofs.Laws as binary-laws
+use Rattle.ascii_file.specs.Files.{check_text}
+use Rattle.ascii_file.proofs.Laws as text-laws
+use Rattle.row_bytes.proofs.KindLaws.{kind-only}
 use Rattle.data.specs.Files.{file_fine, misfit_of}
 use Rattle.change_length.specs.Needed.{fit_row, fit_rows}
 
@@ -71,110 +64,44 @@ pub data Placed : Refusal → Type 0 where
   sample-unfit : (n k : ℕ) → 1 ≤ n → 1 ≤ k → Placed (refused 16 n k)
   no-room : Placed (refused 17 0 0)
 
+pub placed-tabled : {r : Refusal} → Placed r → RefusalTabled r
+placed-tabled configuration-size = tt
+placed-tabled (line-ends n h) = tt
+placed-tabled (line-byte n h) = tt
+placed-tabled (line-fields n h) = tt
+placed-tabled (field-form n k h i) = tt
+placed-tabled (field-range n k h i) = tt
+placed-tabled (field-agrees n k h i) = tt
+placed-tabled (field-year n k h i) = tt
+placed-tabled (bytes_after n h) = tt
+placed-tabled sizes-or-kind = tt
+placed-tabled file-length = tt
+placed-tabled (row_ends n h) = tt
+placed-tabled (row-number n h) = tt
+placed-tabled (row-padding n h) = tt
+placed-tabled (row-text n k h) = tt
+placed-tabled no_row = tt
+placed-tabled (sample-unfit n k h i) = tt
+placed-tabled no-room = tt
+
 pub placed-number : {r : Refusal} → Placed r → (1 ≤ reason_number r.reason) × (reason_number r.reason ≤ 17)
-placed-number configuration-size = (lit≤ tt, lit≤ tt)
-placed-number (line-ends n h) = (lit≤ tt, lit≤ tt)
-placed-number (line-byte n h) = (lit≤ tt, lit≤ tt)
-placed-number (line-fields n h) = (lit≤ tt, lit≤ tt)
-placed-number (field-form n k h i) = (lit≤ tt, lit≤ tt)
-placed-number (field-range n k h i) = (lit≤ tt, lit≤ tt)
-placed-number (field-agrees n k h i) = (lit≤ tt, lit≤ tt)
-placed-number (field-year n k h i) = (lit≤ tt, lit≤ tt)
-placed-number (bytes_after n h) = (lit≤ tt, lit≤ tt)
-placed-number sizes-or-kind = (lit≤ tt, lit≤ tt)
-placed-number file-length = (lit≤ tt, lit≤ tt)
-placed-number (row_ends n h) = (lit≤ tt, lit≤ tt)
-placed-number (row-number n h) = (lit≤ tt, lit≤ tt)
-placed-number (row-padding n h) = (lit≤ tt, lit≤ tt)
-placed-number (row-text n k h) = (lit≤ tt, lit≤ tt)
-placed-number no_row = (lit≤ tt, lit≤ tt)
-placed-number (sample-unfit n k h i) = (lit≤ tt, lit≤ tt)
-placed-number no-room = (lit≤ tt, lit≤ tt)
+placed-number p = let t = tabled-number _ (placed-tabled p) in (t.0, t.1)
 
 -- placed, and of a number of at most so much
 abbrev pub PlacedTo : ℕ → Refusal → Type 0
 PlacedTo most r = Placed r × (reason_number r.reason ≤ most)
 
 -- A DATA FILE
-row-placed : (l : Layout) (n : ℕ) (b : List ℕ) → 1 ≤ n → RefusesOnly (PlacedTo 16) (binary.check_row l n b)
-unfolding binary.check_row
-row-placed l n b h =
-    let number = eqb (row_number b) n in
-    let free = padding_free l.statuses (words_part l b) in
-    only_then (PlacedTo 16) (must number (refused 12 n 1)) (must free (refused 13 n 0))
-    (only-must (PlacedTo 16) number (refused 12 n 1) (λ e. (row-number n h, lit≤ tt)))
-    (λ e. only-must (PlacedTo 16) free (refused 13 n 0) (λ f. (row-padding n h, lit≤ tt)))
-
-binary-rows : (l : Layout) (s : List ℕ) (i m : ℕ) → RefusesOnly (PlacedTo 16) (binary_file.check_rows l s i m)
-unfolding binary_file.check_rows
-binary-rows l s i zero = tt
-binary-rows l s i (suc m) =
-    only_then (PlacedTo 16) (binary.check_row l (i + 1) (row_bytes l i s)) (binary_file.check_rows l s (i + 1) m)
-    (row-placed l (i + 1) (row_bytes l i s) (omega arith))
-    (λ e. binary-rows l s (i + 1) m)
+text-placed : (l : Layout) (s : List ℕ) → RefusesOnly (PlacedTo 16) (check_text l s)
+text-placed l s =
+    text-laws.file-only (PlacedTo 16) (λ n h. (row_ends n h, lit≤ tt)) (λ n k h. (row-text n k h, lit≤ tt)) (λ n h. (row-number n h, lit≤ tt)) l s
 
 binary-placed : (l : Layout) (s : List ℕ) → RefusesOnly (PlacedTo 16) (check_binary l s)
-unfolding check_binary
-binary-placed l s =
-    only_then (PlacedTo 16) (check_length l s) (binary_file.check_rows l s 0 l.rows)
-    (only-must (PlacedTo 16) (eqb (length s) (l.rows * row_size l)) (refused 11 0 0) (λ e. (file-length, lit≤ tt)))
-    (λ e. binary-rows l s 0 l.rows)
-
--- row n of a text, from the first on
-module _ (n : ℕ) (h : 1 ≤ n) where
-  text-field : (k : ℕ) (v : Option ℕ) → RefusesOnly (PlacedTo 16) (ascii.field n k v)
-  text-field k (Some v) = tt
-  text-field k None = (row-text n k h, lit≤ tt)
-
-  text-fields : (l : Layout) (t : List ℕ) (k m : ℕ) → RefusesOnly (PlacedTo 16) (check_fields l n t k m)
-  unfolding check_fields
-  text-fields l t k zero = tt
-  text-fields l t k (suc m) =
-      only_then (PlacedTo 16) (must (field_fine l k (first_field t)) (refused 14 n k)) (check_fields l n (drop (field_length t + 1) t) (k + 1) m)
-      (only-must (PlacedTo 16) (field_fine l k (first_field t)) (refused 14 n k) (λ e. (row-text n k h, lit≤ tt)))
-      (λ e. text-fields l (drop (field_length t + 1) t) (k + 1) m)
-
-  text-number : (t : List ℕ) → RefusesOnly (PlacedTo 16) (check_number n t)
-  unfolding check_number
-  text-number t =
-      only-bind (PlacedTo 16) (ascii.field n 1 (read_count 1 10 (field_at 1 t))) (λ v. must (eqb v n) (refused 12 n 1))
-      (text-field 1 (read_count 1 10 (field_at 1 t)))
-      (λ v e. only-must (PlacedTo 16) (eqb v n) (refused 12 n 1) (λ f. (row-number n h, lit≤ tt)))
-
-  text-line : (l : Layout) (t : List ℕ) → RefusesOnly (PlacedTo 16) (check_line l n t)
-  unfolding check_line
-  text-line l t =
-      let others = check_fields l n (after_fields 1 t) 2 (1 + l.analogs + l.statuses) in
-      only_then (PlacedTo 16) (must (eqb (field_count t) (fields_of l)) (refused 14 n 0)) (check_number n t >> others)
-      (only-must (PlacedTo 16) (eqb (field_count t) (fields_of l)) (refused 14 n 0) (λ e. (row-text n 0 h, lit≤ tt)))
-      (λ e. only_then (PlacedTo 16) (check_number n t) others (text-number t) (λ f. text-fields l (after_fields 1 t) 2 (1 + l.analogs + l.statuses)))
-
-  text-found : (x : Result Line LineError) → RefusesOnly (PlacedTo 16) (found n x)
-  text-found (Ok one) = tt
-  text-found (Err Ends) = (row_ends n h, lit≤ tt)
-  text-found (Err Bad) = (row-text n 0 h, lit≤ tt)
-
-  text-row : (l : Layout) (s : List ℕ) → RefusesOnly (PlacedTo 16) (take_row l n s)
-  unfolding take_row
-  text-row l s =
-      only-bind (PlacedTo 16) (found n (scan_row s)) (λ len. check_line l n (take len s) >> says (len + 2)) (text-found (scan_row s))
-      (λ len e. only_then (PlacedTo 16) (check_line l n (take len s)) (says (len + 2)) (text-line l (take len s)) (λ f. tt))
-
-text-rows : (l : Layout) (s : List ℕ) (n m : ℕ) → 1 ≤ n → RefusesOnly (PlacedTo 16) (ascii_file.check_lines l s n m)
-unfolding ascii_file.check_lines
-text-rows l s n zero h = only-must (PlacedTo 16) (is_ending s) (refused 11 n 0) (λ e. (row_ends n h, lit≤ tt))
-text-rows l s n (suc m) h =
-    only-bind (PlacedTo 16) (take_row l n s) (λ taken. ascii_file.check_lines l (drop taken s) (n + 1) m) (text-row n h l s)
-    (λ taken e. text-rows l (drop taken s) (n + 1) m (omega arith))
-
-kind-placed : (k : Kind) (x y : Said Refusal (Unit {0})) → RefusesOnly (PlacedTo 16) x → RefusesOnly (PlacedTo 16) y → RefusesOnly (PlacedTo 16) (by_kind k x y)
-kind-placed Ascii x y p q = p
-kind-placed Binary x y p q = q
-kind-placed Binary32 x y p q = q
+binary-placed l s = binary-laws.file-only (PlacedTo 16) (file-length, lit≤ tt) (λ n h. (row-number n h, lit≤ tt)) (λ n h. (row-padding n h, lit≤ tt)) l s
 
 pub file-placed : (l : Layout) (s : List ℕ) → RefusesOnly (PlacedTo 16) (file_fine l s)
-unfolding file_fine check_text
-file-placed l s = kind-placed l.kind (check_text l s) (check_binary l s) (text-rows l s 1 l.rows (omega arith)) (binary-placed l s)
+unfolding file_fine
+file-placed l s = kind-only (PlacedTo 16) l.kind (check_text l s) (check_binary l s) (text-placed l s) (binary-placed l s)
 
 pub fits-placed : (l : Layout) (r : ℕ → Row) (i m : ℕ) → RefusesOnly (PlacedTo 16) (fit_rows l r i m)
 unfolding fit_rows

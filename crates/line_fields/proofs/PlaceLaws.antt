@@ -6,13 +6,15 @@
 --     has-fields-ruled, faultless-ruled, agrees-ruled, value-ruled     the checks that a line is made of
 --     then-ruled, bind-ruled            and what is made of two of them
 --     fault-numbered                    a refusal has a number, and it is not 0
+--     fault-tabled                      its reason is one of the 17
+--     checked-tabled, error-tabled, value-tabled     so is what a field is refused with, by its check's number or by what was read, at any field
 -- Assumes nothing.
 use mathlib.Core.Bool.{Bool, true, false}
 use mathlib.Core.List.{List}
 use Prim.Native.Nat.{ℕ, ◌≤◌}
 use lib.Dec.{eqb}
 use lib.ListN.{length}
-use Rattle.ground.specs.Said.{Said, ◌>>=◌, ◌>>◌, must}
+use Rattle.ground.specs.Said.{Said, ◌>>=◌, ◌>>◌, must, answer_said}
 use Rattle.ground.proofs.Cases.{on_test}
 use Rattle.ground.proofs.RefusalLaws.{RefusesOnly, only-must, only_then, only-bind}
 use Rattle.text.specs.Fields.{field_count, field_at}
@@ -24,9 +26,10 @@ use Rattle.reals.specs.declared.Sign.TheVariants.{Above, Below, Zero}
 use Rattle.numerals.specs.Counts.{length_in, read_count}
 use Rattle.reals.specs.Forms.{read_real}
 use Rattle.line_fields.specs.declared.Fault.{Fault}
-use Rattle.line_fields.specs.Faults.{number_of_read, text_fault, index_is, index_fault, any_real, real_fault, frequency_fault, above_zero, above_fault, at_zero, zero_fault, rate_fault}
+use Rattle.line_fields.specs.Faults.{checked, error_number, number_of_read, text_fault, index_is, index_fault, any_real, real_fault, frequency_fault, above_zero, above_fault, at_zero, zero_fault, rate_fault}
 use Rattle.line_fields.specs.Checks.{fault, has_fields, faultless, value_at}
-use Rattle.model.specs.Refusals.{reason_number}
+use Rattle.model.specs.Refusals.{numbered, reason_number}
+use Rattle.model.proofs.NumberLaws.{Tabled}
 use Rattle.std.proofs.Common.{◌≡◌, arith}
 
 -- a field's number: 0 where it is fine
@@ -139,3 +142,24 @@ fault-numbered (form k h) z = absurd (omega arith)
 fault-numbered (range k h) z = absurd (omega arith)
 fault-numbered (agreement k h) z = absurd (omega arith)
 fault-numbered (year k h) z = absurd (omega arith)
+
+pub fault-tabled : {f : Fault} → FaultPlaced f → Tabled f.reason
+fault-tabled whole = tt
+fault-tabled (form k h) = tt
+fault-tabled (range k h) = tt
+fault-tabled (agreement k h) = tt
+fault-tabled (year k h) = tt
+
+pub checked-tabled : {n : ℕ} → FieldNumber n → RefusesOnly Tabled (answer_said (checked n))
+checked-tabled fine-field = tt
+checked-tabled of-form = tt
+checked-tabled of_range = tt
+checked-tabled of-agreement = tt
+
+pub error-tabled : (e : FieldError) → Tabled (numbered (error_number e))
+error-tabled Form = tt
+error-tabled Range = tt
+
+pub value-tabled : {A : Type 0} (k : ℕ) (v : Result A FieldError) → RefusesOnly (λ (f : Fault). Tabled f.reason) (value_at k v)
+value-tabled k (Ok v) = tt
+value-tabled k (Err e) = error-tabled e

@@ -1,11 +1,27 @@
 -- Laws of the numbers of refusals.
---     number-back     the reason of a number has that number
+--     number-back                       the reason of a number has that number
+--     Tabled                            one of the 17 reasons in the table of numbers, so not `Other`
+--     tabled-number                     its number is from 1 to 17, and it is the reason of that number
+--     reason-once                       no two of them have the same number
+--     numbered-tabled                   the reason of a number from 1 to 17 is one of them
+--     RefusalTabled, RefusesTabled      a refusal has such a reason, and each that a rule gives
+--     sample-tabled, status-tabled      so has the one for a channel that no row has
 -- Assumes nothing.
-use Rattle.std.proofs.Common.{◌≡◌, ℕ, sym, refl}
+use Rattle.std.proofs.Common.{◌≡◌, ◌≤◌, ◌+◌, ◌-◌, ℕ, Bool, true, false, sym, refl, ap, ◌∙◌, arith}
 use borrow.Author.Tests.{eqb-true}
-use lib.Dec.{eqb}
-use Rattle.ground.proofs.Cases.{on_test}
+use lib.Dec.{lit≤, eqb, ltb}
+use Rattle.ground.specs.Said.{Said, answer_said}
+use Rattle.ground.specs.Tables.{tab, every}
+use Rattle.ground.proofs.Cases.{on_test, clash}
+use Rattle.ground.proofs.Every.{every-at}
+use Rattle.ground.proofs.RefusalLaws.{RefusesOnly}
+use Rattle.ground.proofs.Tables.{get_or-tab}
+use Rattle.model.specs.declared.Reason.{Reason}
+use Rattle.model.specs.declared.Reason.TheVariants.{TooLong, EndsEarly, BadByte, FieldCount, Form, NotAllowed, Disagrees, Year, BytesAfter, Sizes, FileLength, RowNumber, Padding, BadText, NoSuchRow, DoesNotFit, NoRoom, Other}
+use Rattle.model.specs.declared.Refusal.{Refusal}
+use Rattle.model.specs.declared.Row.{Row}
 use Rattle.model.specs.Refusals.{reason_number, numbered}
+use Rattle.model.specs.Rows.{sample_at, status_at}
 
 pub number-back : (n : ℕ) → reason_number (numbered n) ≡ n
 number-back n =
@@ -27,3 +43,70 @@ number-back n =
     on_test (eqb n 16) (λ t16. rw (t1, t2, t3, t4, t5, t6, t7, t8, t9, t10, t11, t12, t13, t14, t15, t16) (sym (eqb-true n 16 t16))) (λ t16.
     on_test (eqb n 17) (λ t17. rw (t1, t2, t3, t4, t5, t6, t7, t8, t9, t10, t11, t12, t13, t14, t15, t16, t17) (sym (eqb-true n 17 t17))) (λ t17.
     rw (t1, t2, t3, t4, t5, t6, t7, t8, t9, t10, t11, t12, t13, t14, t15, t16, t17) refl)))))))))))))))))
+
+-- one of the 17 reasons in the table of numbers
+abbrev pub Tabled : Reason → Type 0
+Tabled (Other n) = ⊥
+Tabled r = Unit {0}
+
+pub tabled-number : (r : Reason) → Tabled r → (1 ≤ reason_number r) × (reason_number r ≤ 17) × (numbered (reason_number r) ≡ r)
+tabled-number TooLong h = (lit≤ tt, lit≤ tt, refl)
+tabled-number EndsEarly h = (lit≤ tt, lit≤ tt, refl)
+tabled-number BadByte h = (lit≤ tt, lit≤ tt, refl)
+tabled-number FieldCount h = (lit≤ tt, lit≤ tt, refl)
+tabled-number Form h = (lit≤ tt, lit≤ tt, refl)
+tabled-number NotAllowed h = (lit≤ tt, lit≤ tt, refl)
+tabled-number Disagrees h = (lit≤ tt, lit≤ tt, refl)
+tabled-number Year h = (lit≤ tt, lit≤ tt, refl)
+tabled-number BytesAfter h = (lit≤ tt, lit≤ tt, refl)
+tabled-number Sizes h = (lit≤ tt, lit≤ tt, refl)
+tabled-number FileLength h = (lit≤ tt, lit≤ tt, refl)
+tabled-number RowNumber h = (lit≤ tt, lit≤ tt, refl)
+tabled-number Padding h = (lit≤ tt, lit≤ tt, refl)
+tabled-number BadText h = (lit≤ tt, lit≤ tt, refl)
+tabled-number NoSuchRow h = (lit≤ tt, lit≤ tt, refl)
+tabled-number DoesNotFit h = (lit≤ tt, lit≤ tt, refl)
+tabled-number NoRoom h = (lit≤ tt, lit≤ tt, refl)
+tabled-number (Other n) h = absurd h
+
+pub reason-once : (p q : Reason) → Tabled p → Tabled q → reason_number p ≡ reason_number q → p ≡ q
+reason-once p q a b e = sym (tabled-number p a).2 ∙ ap numbered e ∙ (tabled-number q b).2
+
+-- the same as a test
+abbrev is_tabled : Reason → Bool
+is_tabled (Other n) = false
+is_tabled r = true
+
+test-tabled : (r : Reason) → is_tabled r ≡ true → Tabled r
+test-tabled (Other n) e = clash (cc)
+test-tabled r e = tt
+
+-- each of the numbers from 1 to 17 has such a reason
+all_tabled : every (λ i. is_tabled (numbered (i + 1))) (tab (λ i. i) 17) ≡ true
+all_tabled = refl
+
+pub numbered-tabled : (n : ℕ) → 1 ≤ n → n ≤ 17 → Tabled (numbered n)
+numbered-tabled n h k =
+    let e = every-at (λ j. is_tabled (numbered (j + 1))) (tab (λ j. j) 17) (n - 1) 0 all_tabled (omega arith) in
+    let q : n - 1 + 1 ≡ n = omega arith in
+    test-tabled (numbered n) (rw (get_or-tab (λ j. j) 17 (n - 1) 0 (omega arith), q) at e)
+
+-- the reason of a refusal is one of the 17
+abbrev pub RefusalTabled : Refusal → Type 0
+RefusalTabled r = Tabled r.reason
+
+-- where the rule refuses, its reason is
+abbrev pub RefusesTabled : {A : Type 0} → Said Refusal A → Type 0
+RefusesTabled x = RefusesOnly RefusalTabled x
+
+pub sample-tabled : (n : ℕ) (r : Row) → RefusesTabled (answer_said (sample_at n r))
+unfolding sample_at
+sample-tabled n r =
+    on_test (ltb n 1) (λ t. rw t tt) (λ t.
+    on_test (ltb 96 n) (λ u. rw (t, u) tt) (λ u. rw (t, u) tt))
+
+pub status-tabled : (n : ℕ) (r : Row) → RefusesTabled (answer_said (status_at n r))
+unfolding status_at
+status-tabled n r =
+    on_test (ltb n 1) (λ t. rw t tt) (λ t.
+    on_test (ltb 256 n) (λ u. rw (t, u) tt) (λ u. rw (t, u) tt))

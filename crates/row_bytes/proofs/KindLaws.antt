@@ -2,11 +2,14 @@
 --     text-kind                   text
 --     binary-arm, not-text, binary-kind     the two binary kinds, by the two, or as those that are not text
 --     by-kind                     text or one of the binary kinds
+--     kind-only                   what is said by the kind refuses only with what has a property, where both do
 -- Assumes nothing.
 use mathlib.Core.Path.{◌≡◌, refl, ap}
 use mathlib.Core.Logic.{◌⊎◌, ⊎_elim}
 use Prim.Native.Nat.{ℕ}
 use native.Mathlib.Omega.{arith}
+use Rattle.ground.specs.Said.{Said}
+use Rattle.ground.proofs.RefusalLaws.{RefusesOnly}
 use Rattle.model.specs.declared.Kind.{Kind}
 use Rattle.model.specs.declared.Kind.TheVariants.{Ascii, Binary, Binary32}
 use Rattle.model.specs.Kinds.{kind_number}
@@ -30,3 +33,8 @@ pub by-kind : {C : Type 0} (k : Kind) → (k ≡ Ascii → C) → ((k ≡ Ascii 
 by-kind Ascii f g = f refl
 by-kind Binary f g = g (λ e. let q : 1 ≡ 0 = ap kind_number e in absurd (omega arith))
 by-kind Binary32 f g = g (λ e. let q : 2 ≡ 0 = ap kind_number e in absurd (omega arith))
+
+pub kind-only : {R A : Type 0} (P : R → Type 0) (k : Kind) (text binary : Said R A) → RefusesOnly P text → RefusesOnly P binary → RefusesOnly P (by_kind k text binary)
+kind-only P Ascii text binary p q = p
+kind-only P Binary text binary p q = q
+kind-only P Binary32 text binary p q = q

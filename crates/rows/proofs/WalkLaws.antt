@@ -5,6 +5,7 @@
 --     fine-walk                 the file is fine where the walk finds it so
 --     fine-taken                a row that is fine takes what a row there takes
 --     here-within, has-row      a row lies within what is left
+--     here-tabled, start-tabled, end-tabled     `check_here`, `start_fine` and `end_fine` refuse with reasons in the table of numbers alone
 -- Assumes nothing.
 use mathlib.Core.Path.{◌≡◌, refl, sym, ap, ◌∙◌}
 use mathlib.Core.List.{List}
@@ -15,18 +16,21 @@ use native.Mathlib.Omega.{arith}
 use lib.ListN.{length, take, drop, length-drop}
 use lib.Seq.{drop-drop}
 use Rattle.ground.specs.Said.{Said, says, refuses, ◌>>=◌, ◌>>◌}
+use Rattle.ground.proofs.RefusalLaws.{only_then}
 use Rattle.ground.proofs.SaidLaws.{then-told, bind-ext}
 use Rattle.ground.proofs.Tables.{block-end}
 use Rattle.model.specs.declared.Kind.TheVariants.{Ascii}
 use Rattle.model.specs.declared.Layout.{Layout}
 use Rattle.model.specs.declared.Refusal.{Refusal}
+use Rattle.model.proofs.NumberLaws.{RefusalTabled, RefusesTabled}
 use Rattle.ascii_row.specs.Rows as ascii
 use Rattle.binary_row.specs.Rows as binary
+use Rattle.binary_row.proofs.RowLaws.{check-tabled}
 use Rattle.binary_file.specs.Files as binary_file
-use Rattle.binary_file.proofs.Laws.{length-told}
+use Rattle.binary_file.proofs.Laws.{length-told, length-tabled}
 use Rattle.ascii_file.specs.Files as ascii_file
 use Rattle.ascii_file.proofs.Laws as text-laws
-use Rattle.row_bytes.proofs.KindLaws.{text-kind, binary-kind, by-kind}
+use Rattle.row_bytes.proofs.KindLaws.{text-kind, binary-kind, by-kind, kind-only}
 use Rattle.data.specs.Files.{file_fine, row_at}
 use Rattle.rows.specs.Inner.{taken_here, binary_here, row_here, HasRow, rest_of, fine_here, check_here, start_fine, end_fine, walk_fine}
 
@@ -153,3 +157,20 @@ unfolding start_fine
 has-row l s h i k other =
     let e = length-told l s (sym (binary-kind l.kind (says tt) (binary_file.check_length l s) other) ∙ h) in
     rw (binary-rest l other s i, length-drop) (omega (arith, e, block-end i l.rows (binary.row_size l) k))
+
+-- what a walk refuses with
+module _ (l : Layout) where
+  pub here-tabled : (n : ℕ) (t : List ℕ) → RefusesTabled (check_here l n t)
+  unfolding check_here
+  here-tabled n t =
+      let row = take (binary.row_size l) t in
+      kind-only RefusalTabled l.kind (ascii_file.take_row l n t) (fine_here l n t) (text-laws.row-tabled l n t)
+      (only_then RefusalTabled (binary.check_row l n row) (says (binary.row_size l)) (check-tabled l n row) (λ e. tt))
+
+  pub start-tabled : (s : List ℕ) → RefusesTabled (start_fine l s)
+  unfolding start_fine
+  start-tabled s = kind-only RefusalTabled l.kind (says tt) (binary_file.check_length l s) tt (length-tabled l s)
+
+  pub end-tabled : (n : ℕ) (t : List ℕ) → RefusesTabled (end_fine l n t)
+  unfolding end_fine
+  end-tabled n t = kind-only RefusalTabled l.kind (ascii_file.check_end n t) (says tt) (text-laws.end-tabled n t) tt

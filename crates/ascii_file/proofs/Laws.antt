@@ -8,8 +8,9 @@
 --     rows_none, rows-after           what follows the first i rows, from one to the next
 --     found-only                      a line that isn't found is refused only with 11 or 14
 --     row-only, row-tabled            a row only so, or as the check of its line refuses, and so with reasons in the table of numbers
---     end-only, end-tabled            what follows the last row only with 11
---     lines-only, file-only, file-tabled     rows and their end, and a file, only so
+--     end-only, end-tabled            what follows the last row only with 11, which is one of them
+--     lines-only                      rows and their end only as a row
+--     file-only, file-tabled          a file only so, and so with reasons in the table of numbers
 -- Assumes nothing.
 use mathlib.Core.Path.{◌≡◌, refl, sym, ap, ◌∙◌}
 use mathlib.Core.Bool.{true, false, ◌&&◌}
@@ -128,17 +129,18 @@ module _ (P : Refusal → Type 0) where
     pub end-only : (s : List ℕ) → RefusesOnly P (check_end n s)
     end-only s = only-must P (is_ending s) (refused 11 n 0) (λ e. ends)
 
-    module _ (bad : (k : ℕ) → P (refused 14 n k)) (number : P (refused 12 n 1)) where
+    module _ (bad : (k : ℕ) → P (refused 14 n k)) where
       pub found-only : (x : Result Line LineError) → RefusesOnly P (found n x)
       found-only (Ok one) = tt
       found-only (Err Ends) = ends
       found-only (Err Bad) = bad 0
 
-      pub row-only : (l : Layout) (s : List ℕ) → RefusesOnly P (take_row l n s)
-      unfolding take_row
-      row-only l s =
-          only-bind P (found n (scan_row s)) (λ len. check_line l n (take len s) >> says (len + 2)) (found-only (scan_row s))
-          (λ len e. only_then P (check_line l n (take len s)) (says (len + 2)) (line-only P n bad number l (take len s)) (λ f. tt))
+      module _ (number : P (refused 12 n 1)) where
+        pub row-only : (l : Layout) (s : List ℕ) → RefusesOnly P (take_row l n s)
+        unfolding take_row
+        row-only l s =
+            only-bind P (found n (scan_row s)) (λ len. check_line l n (take len s) >> says (len + 2)) (found-only (scan_row s))
+            (λ len e. only_then P (check_line l n (take len s)) (says (len + 2)) (line-only P n bad number l (take len s)) (λ f. tt))
 
   -- every row
   module _ (ends : (n : ℕ) → 1 ≤ n → P (refused 11 n 0)) (bad : (n k : ℕ) → 1 ≤ n → P (refused 14 n k)) (number : (n : ℕ) → 1 ≤ n → P (refused 12 n 1)) where

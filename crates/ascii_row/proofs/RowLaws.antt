@@ -1,8 +1,9 @@
 -- Laws of the line of a text row.
 --     fields-turn         a turn of the check over the fields
 --     fill-turn           a turn of a reader that fills a table with what the fields say
---     field-only, fields-only, number-only     a field, some fields in a row, and the number are refused only with 14, the number with 12 at field 1 too
---     line-only, line-tabled     a line only so, and so with reasons in the table of numbers
+--     field-only, fields-only     a field, and some in a row, are refused only with 14
+--     number-only                 the number only so, or with 12 at field 1
+--     line-only, line-tabled      a line only as its number, so with reasons in the table of numbers
 -- Assumes nothing.
 use mathlib.Core.Path.{◌≡◌, ◌∙◌}
 use mathlib.Core.List.{List, ◌++◌}
@@ -46,7 +47,7 @@ module _ {A : Type 0} (g : List ℕ → A) (l t : List ℕ) (d₀ d : List A) (i
       )
 
 -- row n
-module _ (P : Refusal → Type 0) (n : ℕ) (bad : (k : ℕ) → P (refused 14 n k)) (number : P (refused 12 n 1)) where
+module _ (P : Refusal → Type 0) (n : ℕ) (bad : (k : ℕ) → P (refused 14 n k)) where
   pub field-only : (k : ℕ) (v : Option ℕ) → RefusesOnly P (field n k v)
   field-only k (Some v) = tt
   field-only k None = bad k
@@ -59,20 +60,21 @@ module _ (P : Refusal → Type 0) (n : ℕ) (bad : (k : ℕ) → P (refused 14 n
       (only-must P (field_fine l k (first_field t)) (refused 14 n k) (λ e. bad k))
       (λ e. fields-only l (drop (field_length t + 1) t) (k + 1) m)
 
-  pub number-only : (t : List ℕ) → RefusesOnly P (check_number n t)
-  unfolding check_number
-  number-only t =
-      only-bind P (field n 1 (read_count 1 10 (field_at 1 t))) (λ v. must (eqb v n) (refused 12 n 1))
-      (field-only 1 (read_count 1 10 (field_at 1 t)))
-      (λ v e. only-must P (eqb v n) (refused 12 n 1) (λ f. number))
+  module _ (number : P (refused 12 n 1)) where
+    pub number-only : (t : List ℕ) → RefusesOnly P (check_number n t)
+    unfolding check_number
+    number-only t =
+        only-bind P (field n 1 (read_count 1 10 (field_at 1 t))) (λ v. must (eqb v n) (refused 12 n 1))
+        (field-only 1 (read_count 1 10 (field_at 1 t)))
+        (λ v e. only-must P (eqb v n) (refused 12 n 1) (λ f. number))
 
-  pub line-only : (l : Layout) (t : List ℕ) → RefusesOnly P (check_line l n t)
-  unfolding check_line
-  line-only l t =
-      let others = check_fields l n (after_fields 1 t) 2 (1 + l.analogs + l.statuses) in
-      only_then P (must (eqb (field_count t) (fields_of l)) (refused 14 n 0)) (check_number n t >> others)
-      (only-must P (eqb (field_count t) (fields_of l)) (refused 14 n 0) (λ e. bad 0))
-      (λ e. only_then P (check_number n t) others (number-only t) (λ f. fields-only l (after_fields 1 t) 2 (1 + l.analogs + l.statuses)))
+    pub line-only : (l : Layout) (t : List ℕ) → RefusesOnly P (check_line l n t)
+    unfolding check_line
+    line-only l t =
+        let others = check_fields l n (after_fields 1 t) 2 (1 + l.analogs + l.statuses) in
+        only_then P (must (eqb (field_count t) (fields_of l)) (refused 14 n 0)) (check_number n t >> others)
+        (only-must P (eqb (field_count t) (fields_of l)) (refused 14 n 0) (λ e. bad 0))
+        (λ e. only_then P (check_number n t) others (number-only t) (λ f. fields-only l (after_fields 1 t) 2 (1 + l.analogs + l.statuses)))
 
 pub line-tabled : (l : Layout) (n : ℕ) (t : List ℕ) → RefusesTabled (check_line l n t)
 line-tabled l n t = line-only RefusalTabled n (λ k. tt) tt l t

@@ -2,8 +2,9 @@
 --     row-end, row-length         row i lies within the file, and has the size of a row
 --     rows-turn                   a turn of the check over the rows
 --     length-told, whole          a file that has its length, and an accepted one
---     length-only, length-tabled  its length is refused only with 11
---     rows-only, file-only, file-tabled      rows only as the check of a row refuses, a file only so or so
+--     length-only, length-tabled  its length is refused only with 11, which is in the table of numbers
+--     rows-only                   rows only as the check of a row refuses
+--     file-only, file-tabled      a file only so or so, and so with reasons in the table of numbers
 -- Assumes nothing.
 use mathlib.Core.Path.{◌≡◌, ◌∙◌}
 use mathlib.Core.List.{List}
@@ -44,9 +45,9 @@ module _ (l : Layout) (s : List ℕ) where
   unfolding check_binary
   whole e = let t = then-told (check_length l s) (check_rows l s 0 l.rows) tt e in (length-told t.0, t.1)
 
-module _ (P : Refusal → Type 0) (long : P (refused 11 0 0)) where
-  pub length-only : (l : Layout) (s : List ℕ) → RefusesOnly P (check_length l s)
-  length-only l s = only-must P (eqb (length s) (l.rows * row_size l)) (refused 11 0 0) (λ e. long)
+module _ (P : Refusal → Type 0) where
+  pub length-only : P (refused 11 0 0) → (l : Layout) (s : List ℕ) → RefusesOnly P (check_length l s)
+  length-only long l s = only-must P (eqb (length s) (l.rows * row_size l)) (refused 11 0 0) (λ e. long)
 
   module _ (number : (n : ℕ) → 1 ≤ n → P (refused 12 n 1)) (padding : (n : ℕ) → 1 ≤ n → P (refused 13 n 0)) where
     pub rows-only : (l : Layout) (s : List ℕ) (i m : ℕ) → RefusesOnly P (check_rows l s i m)
@@ -57,12 +58,12 @@ module _ (P : Refusal → Type 0) (long : P (refused 11 0 0)) where
         (check-only P (i + 1) (number (i + 1) (omega arith)) (padding (i + 1) (omega arith)) l (row_bytes l i s))
         (λ e. rows-only l s (i + 1) m)
 
-    pub file-only : (l : Layout) (s : List ℕ) → RefusesOnly P (check_binary l s)
+    pub file-only : P (refused 11 0 0) → (l : Layout) (s : List ℕ) → RefusesOnly P (check_binary l s)
     unfolding check_binary
-    file-only l s = only_then P (check_length l s) (check_rows l s 0 l.rows) (length-only l s) (λ e. rows-only l s 0 l.rows)
+    file-only long l s = only_then P (check_length l s) (check_rows l s 0 l.rows) (length-only long l s) (λ e. rows-only l s 0 l.rows)
 
 pub length-tabled : (l : Layout) (s : List ℕ) → RefusesTabled (check_length l s)
 length-tabled l s = length-only RefusalTabled tt l s
 
 pub file-tabled : (l : Layout) (s : List ℕ) → RefusesTabled (check_binary l s)
-file-tabled l s = file-only RefusalTabled tt (λ n h. tt) (λ n h. tt) l s
+file-tabled l s = file-only RefusalTabled (λ n h. tt) (λ n h. tt) tt l s

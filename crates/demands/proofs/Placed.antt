@@ -97,7 +97,7 @@ text-placed l s =
     text-laws.file-only (PlacedTo 16) (λ n h. (row_ends n h, lit≤ tt)) (λ n k h. (row-text n k h, lit≤ tt)) (λ n h. (row-number n h, lit≤ tt)) l s
 
 binary-placed : (l : Layout) (s : List ℕ) → RefusesOnly (PlacedTo 16) (check_binary l s)
-binary-placed l s = binary-laws.file-only (PlacedTo 16) (file-length, lit≤ tt) (λ n h. (row-number n h, lit≤ tt)) (λ n h. (row-padding n h, lit≤ tt)) l s
+binary-placed l s = binary-laws.file-only (PlacedTo 16) (λ n h. (row-number n h, lit≤ tt)) (λ n h. (row-padding n h, lit≤ tt)) (file-length, lit≤ tt) l s
 
 pub file-placed : (l : Layout) (s : List ℕ) → RefusesOnly (PlacedTo 16) (file_fine l s)
 unfolding file_fine

@@ -5,9 +5,9 @@
 --     Ruled                             a rule that refuses only so
 --     has-fields-ruled, faultless-ruled, agrees-ruled, value-ruled     the checks that a line is made of
 --     then-ruled, bind-ruled            and what is made of two of them
---     fault-numbered                    a refusal has a number, and it is not 0
---     fault-tabled                      its reason is one of the 17
---     checked-tabled, error-tabled, value-tabled     so is what a field is refused with, by its check's number or by what was read, at any field
+--     fault-tabled                      the reason of a refusal is one of the 17
+--     fault-numbered                    it has a number, and it is not 0
+--     checked-tabled, error-tabled, value-tabled     the reason that a field is refused with, by its check's number or by what was read, at any field, is one of the 17
 -- Assumes nothing.
 use mathlib.Core.Bool.{Bool, true, false}
 use mathlib.Core.List.{List}
@@ -29,7 +29,7 @@ use Rattle.line_fields.specs.declared.Fault.{Fault}
 use Rattle.line_fields.specs.Faults.{checked, error_number, number_of_read, text_fault, index_is, index_fault, any_real, real_fault, frequency_fault, above_zero, above_fault, at_zero, zero_fault, rate_fault}
 use Rattle.line_fields.specs.Checks.{fault, has_fields, faultless, value_at}
 use Rattle.model.specs.Refusals.{numbered, reason_number}
-use Rattle.model.proofs.NumberLaws.{Tabled}
+use Rattle.model.proofs.NumberLaws.{Tabled, tabled-number}
 use Rattle.std.proofs.Common.{◌≡◌, arith}
 
 -- a field's number: 0 where it is fine
@@ -136,19 +136,15 @@ module _ (k : ℕ) (h : 1 ≤ k) where
   value-ruled (Err Form) = form k h
   value-ruled (Err Range) = range k h
 
-pub fault-numbered : {f : Fault} → FaultPlaced f → reason_number f.reason ≡ 0 → ⊥
-fault-numbered whole z = absurd (omega arith)
-fault-numbered (form k h) z = absurd (omega arith)
-fault-numbered (range k h) z = absurd (omega arith)
-fault-numbered (agreement k h) z = absurd (omega arith)
-fault-numbered (year k h) z = absurd (omega arith)
-
 pub fault-tabled : {f : Fault} → FaultPlaced f → Tabled f.reason
 fault-tabled whole = tt
 fault-tabled (form k h) = tt
 fault-tabled (range k h) = tt
 fault-tabled (agreement k h) = tt
 fault-tabled (year k h) = tt
+
+pub fault-numbered : {f : Fault} → FaultPlaced f → reason_number f.reason ≡ 0 → ⊥
+fault-numbered p z = omega (arith, (tabled-number _ (fault-tabled p)).0)
 
 pub checked-tabled : {n : ℕ} → FieldNumber n → RefusesOnly Tabled (answer_said (checked n))
 checked-tabled fine-field = tt
